@@ -1,0 +1,68 @@
+// Postfix codes: which lists of codes are those of a model, and where any other is at fault.
+ghost use Rattle.codes.specs.Checked.{Checked};
+use faults::Fault;
+use faults::Layer;
+
+/// The most symbols that a model may have.
+pub const MOST_SYMBOLS: usize = 64;
+
+/// The most codes that a model may have.
+pub const MOST_CODES: usize = 1280;
+
+/// How many parts are made and not yet taken, and how many symbols are used.
+#[derive(Clone, Copy)]
+pub struct Tally {
+    pub parts: usize,
+    pub used: usize,
+}
+
+/// Takes one more code; `None` where it is above 6, or a part or a symbol is missing.
+fn advance(tally: Tally, code: u8, symbols: usize) -> Option<Tally> {
+    let Tally { parts, used } = tally;
+    match code {
+        0 => Some(Tally {
+            parts: parts + 1,
+            used,
+        }),
+        1 if used < symbols => Some(Tally {
+            parts: parts + 1,
+            used: used + 1,
+        }),
+        2 | 3 if parts >= 2 => Some(Tally {
+            parts: parts - 1,
+            used,
+        }),
+        4 | 5 | 6 if parts >= 1 => Some(tally),
+        _ => None,
+    }
+}
+
+/// Whether these are the codes of a model with so many symbols, within the limits.
+pub fn check(codes: &[u8], symbols: usize) -> Result<(), Fault>
+    ensures { λ r. ⌜ Checked symbols (now (codes .entry)) r ⌝ }
+{
+    if symbols > MOST_SYMBOLS {
+        return Err(Fault::TooLarge {
+            layer: Layer::Model,
+            limit: MOST_SYMBOLS,
+        });
+    }
+    if codes.len() > MOST_CODES {
+        return Err(Fault::TooLarge {
+            layer: Layer::Model,
+            limit: MOST_CODES,
+        });
+    }
+    let mut tally = Tally { parts: 0, used: 0 };
+    for (i, code) in codes.iter().enumerate() {
+        match advance(tally, *code, symbols) {
+            Some(next) => tally = next,
+            None => return Err(Fault::Malformed { at: i }),
+        }
+    }
+    if tally.parts == 1 && tally.used == symbols {
+        Ok(())
+    } else {
+        Err(Fault::Malformed { at: codes.len() })
+    }
+}
