@@ -1,0 +1,6 @@
+pub mod Numbers
+pub mod Shapes
+pub mod Building
+pub mod Faulty
+pub mod Counts
+pub mod Answered

@@ -1,3 +1,5 @@
 pub mod Tree
 pub mod Build
 pub mod Checked
+pub mod Theorems
+pub mod Counting

@@ -1,5 +1,13 @@
 // Postfix codes: which lists of codes are those of a model, and where any other is at fault.
+ghost use mathlib.Core.Path.{_≡_};
+ghost use mathlib.Core.List.{List};
+ghost use Prim.Native.Nat.{ℕ, _≤_};
+ghost use lib.ListN.{length};
+ghost use Rattle.codes.specs.Tree.{Tree};
+ghost use Rattle.codes.specs.Build.{step};
 ghost use Rattle.codes.specs.Checked.{Checked};
+ghost use Rattle.codes.specs.Counting.{Advances, OneMore};
+ghost use Rattle.codes.specs.Theorems.{Building, OneAnswer, OneTree};
 use faults::Fault;
 use faults::Layer;
 
@@ -17,7 +25,11 @@ pub struct Tally {
 }
 
 /// Takes one more code; `None` where it is above 6, or a part or a symbol is missing.
-fn advance(tally: Tally, code: u8, symbols: usize) -> Option<Tally> {
+fn advance(tally: Tally, code: u8, symbols: usize) -> Option<Tally>
+    requires { ⌜ tally .parts ≤ 1280 ⌝ }
+    ensures size { λ r. ⌜ OneMore r tally ⌝ }
+    ensures made { λ r. ⌜ ((s : List (Tree ℕ)) → length s ≡ tally .parts → Advances r (step symbols code s (tally .used))) ⌝ }
+{
     let Tally { parts, used } = tally;
     match code {
         0 => Some(Tally {
@@ -65,4 +77,25 @@ pub fn check(codes: &[u8], symbols: usize) -> Result<(), Fault>
     } else {
         Err(Fault::Malformed { at: codes.len() })
     }
+}
+
+/// The codes of a tree determine its shape, and with what stands at its symbols the tree.
+pub fn one_tree<T>() -> u8
+    ensures { λ _. ⌜ OneTree T ⌝ }
+{
+    0
+}
+
+/// Building and writing in postfix order are inverse.
+pub fn building_inverts() -> u8
+    ensures { λ _. ⌜ Building ⌝ }
+{
+    0
+}
+
+/// Each list of codes has one answer.
+pub fn one_answer() -> u8
+    ensures { λ _. ⌜ OneAnswer ⌝ }
+{
+    0
 }

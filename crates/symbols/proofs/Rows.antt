@@ -1,5 +1,6 @@
 -- The row of a name's bytes has those bytes. Assumes nothing.
 use mathlib.Core.Path.{_≡_, refl, sym, ap, subst, _∙_}
+use mathlib.Core.Bool.{Bool, cond}
 use mathlib.Core.List.{List, _++_}
 use mathlib.Core.Logic.{inl, inr}
 use Prim.Native.Nat.{ℕ, _<_, _≤_, min, max}
@@ -7,7 +8,10 @@ use native.Mathlib.Omega.{arith}
 use lib.ListN.{length, take, drop, replicate}
 use Rattle.std.proofs.shelf.Lists.{append-assoc, take-append-le, take-all}
 use Rattle.std.proofs.shelf.Tests.{cases-lt}
-use Rattle.symbols.specs.NameRows.{width, row-bytes, name-row}
+use Rattle.symbols.specs.Rule.{allowed, IsName}
+use Rattle.symbols.specs.Makings.{AllRight, WrongAt}
+use Rattle.symbols.specs.NameRows.{width, row-bytes, name-row, name-sized}
+use Rattle.symbols.specs.declared.name_rows.NameRow.{NameRow}
 
 pub row-of-name : (n : List ℕ) → 1 ≤ length n → length n ≤ 32 → row-bytes (name-row n) ≡ n
 row-of-name n one most =
@@ -25,3 +29,12 @@ take-least xs m n e = elim (cases-lt n (length xs)) [ inl h ↦ ap (λ (k : ℕ)
 
     under : length xs ≤ n → take m xs ≡ take n xs
     under h = take-all m xs (omega arith) ∙ sym (take-all n xs h)
+
+pub right-name : (r : NameRow) (w : List ℕ) → w ≡ row-bytes r → AllRight w → IsName (row-bytes r)
+right-name r w e f = (name-sized r .some, name-sized r .most, subst AllRight e f)
+
+pub wrong-name : (r : NameRow) (w : List ℕ) (at : ℕ) → w ≡ row-bytes r → WrongAt w at → IsName (row-bytes r) → ⊥
+wrong-name r w at e x f =
+    let right : AllRight w = subst AllRight (sym e) (f .2) in
+    let z : _≡_ {A = ℕ} 1 0 = ap (λ (v : Bool). cond v 0 1) (sym (x .here) ∙ right at (x .inside)) in
+    omega arith

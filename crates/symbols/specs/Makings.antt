@@ -9,15 +9,21 @@ use Rattle.faults.specs.declared.Fault.{Fault}
 use Rattle.faults.specs.declared.Fault.the-variants.{LongName, Unexpected, WrongCue}
 use Rattle.symbols.specs.Rule.{allowed}
 
--- the first wrong byte stands at the place; where there is no byte at all, the place is 0
-pub record FirstWrong (text : List ℕ) (at : ℕ) : Type 0 where
-  pub most : length text ≤ 32
-  pub before : (k : ℕ) → k < at → allowed k (getD text k 0) ≡ true
-  pub here : ((length text ≡ 0) × (at ≡ 0)) ⊎ ((at < length text) × (allowed at (getD text at 0) ≡ false))
+-- each byte may stand where it does
+abbrev pub AllRight : List ℕ → Type 0
+AllRight text = (k : ℕ) → k < length text → allowed k (getD text k 0) ≡ true
 
--- the fault of bytes that are no name
+-- the first byte that may not stand where it does
+pub record WrongAt (text : List ℕ) (at : ℕ) : Type 0 where
+  pub inside : at < length text
+  pub before : (k : ℕ) → k < at → allowed k (getD text k 0) ≡ true
+  pub here : allowed at (getD text at 0) ≡ false
+
+-- the fault of bytes that are no name: over 32 of them, none at all, or the first wrong one
 abbrev pub NotName : List ℕ → Fault → Type 0
-NotName text f = ((32 < length text) × (f ≡ LongName 0)) ⊎ ((at : ℕ) × (f ≡ Unexpected at) × FirstWrong text at)
+NotName text f =
+    ((32 < length text) × (f ≡ LongName 0))
+    ⊎ (((length text ≡ 0) × (f ≡ Unexpected 0)) ⊎ ((length text ≤ 32) × ((at : ℕ) × (f ≡ Unexpected at) × WrongAt text at)))
 
 -- the fault of two bytes that are no cue: the status is judged first
 abbrev pub NotCue : ℕ → ℕ → Fault → Type 0

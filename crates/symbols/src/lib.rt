@@ -9,6 +9,7 @@ ghost use Rattle.symbols.specs.Forms.{Sized, form-bytes};
 pub mod cue_rows;
 pub mod cues;
 pub mod forms;
+mod name_bytes;
 pub mod name_rows;
 pub mod names;
 

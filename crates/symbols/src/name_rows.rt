@@ -2,10 +2,13 @@
 ghost use mathlib.Core.Path.{_≡_};
 ghost use Prim.Native.Nat.{_≤_};
 ghost use lib.ListN.{length, take};
+ghost use Rattle.std.specs.Orderings.{Decides};
+ghost use Rattle.symbols.specs.Rule.{IsName};
 ghost use Rattle.symbols.specs.NameRows.{width, row-bytes, name-row, name-same, name-foreign, name-laws, name-sized};
 use super::Printable;
 use super::Symbol;
 use super::forms::Form;
+use super::name_bytes::first_wrong;
 
 /// A name as plain data: 32 bytes, and a length that counts as the nearest of 1 to 32.
 #[derive(Clone, Copy)]
@@ -48,6 +51,16 @@ impl NameRow {
         ensures { λ r. ⌜ now r ≡ row-bytes (now (self .entry)) ⌝ }
     {
         &self.bytes[0..self.width()]
+    }
+
+    /// Whether the bytes that count are a name.
+    pub fn is_name(&self) -> bool
+        ensures { λ r. ⌜ Decides r (IsName (row-bytes (now (self .entry)))) ⌝ }
+    {
+        match first_wrong(self.text()) {
+            None => true,
+            Some(_) => false,
+        }
     }
 }
 

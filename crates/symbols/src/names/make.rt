@@ -1,23 +1,12 @@
 // The making of names.
 ghost use mathlib.Core.Path.{_≡_};
-ghost use Rattle.symbols.specs.Rule.{allowed};
 ghost use Rattle.symbols.specs.NameRows.{name-row};
 ghost use Rattle.symbols.specs.Makings.{NotName};
 ghost use Rattle.std.specs.Results.{Cases};
 use super::Name;
+use crate::name_bytes::first_wrong;
 use crate::name_rows::NameRow;
 use faults::Fault;
-
-/// Whether a byte may stand at a place of a name, counted from 0.
-fn allows(at: usize, byte: u8) -> bool
-    ensures { λ r. ⌜ r ≡ allowed at byte ⌝ }
-{
-    match byte {
-        b'a'..=b'z' | b'A'..=b'Z' | b'_' | b':' => true,
-        b'0'..=b'9' | b'.' | b'-' => at != 0,
-        _ => false,
-    }
-}
 
 impl Name {
     /// The name of these bytes. Over 32 of them give fault 3 at 0, else the first wrong byte gives 2 there, and no byte 2 at 0.
@@ -30,14 +19,12 @@ impl Name {
         if text.len() == 0 {
             return Err(Fault::Unexpected { at: 0 });
         }
-        for i in 0..text.len() {
-            if !allows(i, text[i]) {
-                return Err(Fault::Unexpected { at: i });
-            }
+        match first_wrong(text) {
+            Some(at) => Err(Fault::Unexpected { at }),
+            None => Ok(Name {
+                row: NameRow::of(text),
+            }),
         }
-        Ok(Name {
-            row: NameRow::of(text),
-        })
     }
 
     /// The name as a row.

@@ -1,0 +1,11 @@
+pub mod Built
+pub mod Complete
+pub mod Edges
+pub mod First
+pub mod Local
+pub mod Names
+pub mod Outcomes
+pub mod Room
+pub mod Sound
+pub mod Tokens
+pub mod Unique

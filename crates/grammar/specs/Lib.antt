@@ -1,0 +1,5 @@
+pub mod Grammar
+pub mod Reads
+pub mod Refusals
+pub mod Trees
+pub mod Theorems

@@ -1,0 +1,9 @@
+pub mod Names
+pub mod Nest
+pub mod Round
+pub mod Low
+pub mod Wrapped
+pub mod Trees
+pub mod Fronts
+pub mod Steps
+pub mod Final

@@ -1,0 +1,4 @@
+pub mod Written
+pub mod Levels
+pub mod Writes
+pub mod Drafts
