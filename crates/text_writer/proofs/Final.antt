@@ -66,7 +66,7 @@ written-bare x n (inr f) = wrapped x (n f) ∙ ap (λ (b : Bool). grouped b (tex
 text-small : {cs : List ℕ} {ns : List (List ℕ)} {x : Tree (List ℕ)} → Sayable cs ns x → Plain x → length (text Alone x) + 2 ≤ 5890
 text-small {cs} {ns} {x} s (inl e) = subst (λ (y : Tree (List ℕ)). length (text Alone y) + 2 ≤ 5890) (sym e) (omega arith)
 text-small {cs} {ns} {x} s (inr f) =
-    omega (arith, text-length x (named-of s f) Alone, s .few, s .short, ap length (s .names), ap length (s .codes))
+    omega (arith, text-length x (named-of s f) Alone, s .formed .few, s .formed .short, ap length (s .names), ap length (s .codes))
 
 pub written-small : {cs : List ℕ} {ns : List (List ℕ)} {x : Tree (List ℕ)} → Sayable cs ns x → length (written x) ≤ 5890
 written-small {cs} {ns} {x} s =
@@ -99,7 +99,7 @@ drafted cs ns x b l r d₀ d₁ d₂ d₃ s eb lc ln blank from p₁ t₂ p₃ =
 pub sayable-of : (cs : List ℕ) (ns : List (List ℕ)) → checked.WellFormed (length ns) cs → NoneEmpty cs → AllNames ns → (x : Tree (List ℕ)) × Sayable cs ns x
 sayable-of cs ns w e n =
     let t = tree-of cs ns (w .tree) (w .codes) in
-    (t .0, record { few = w .few; short = w .short; codes = t .1; names = t .2; plain = plain-from (t .0) (subst NoneEmpty (t .1) e); named = n })
+    (t .0, record { formed = w; codes = t .1; names = t .2; plain = plain-from (t .0) (subst NoneEmpty (t .1) e); named = n })
 
 -- what is written reads back
 reads-back : (x : Tree (List ℕ)) → (Solid x → Named x) → Plain x → Shallow (written x) → Model (written x) 32 16 (postfix x) (leaves x)

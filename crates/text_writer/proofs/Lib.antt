@@ -7,3 +7,4 @@ pub mod Trees
 pub mod Fronts
 pub mod Steps
 pub mod Final
+pub mod Answered

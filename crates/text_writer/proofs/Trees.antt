@@ -65,7 +65,7 @@ tree-of cs ns e c =
     )
 
 -- each element satisfies P
-abbrev Each : {A : Type 0} → (A → Type 0) → List A → Type 0
+abbrev pub Each : {A : Type 0} → (A → Type 0) → List A → Type 0
 Each P [] = Unit {0}
 Each P (x ∷ xs) = P x × Each P xs
 
@@ -81,7 +81,16 @@ each-right : {A : Type 0} (P : A → Type 0) (xs ys : List A) → Each P (xs ++ 
 each-right P [] ys h = h
 each-right P (x ∷ xs) ys h = each-right P xs ys (h .1)
 
-abbrev Nonzero : ℕ → Type 0
+pub each-both : {A : Type 0} (P : A → Type 0) (xs ys : List A) → Each P xs → Each P ys → Each P (xs ++ ys)
+each-both P [] ys f g = g
+each-both P (x ∷ xs) ys f g = (f .0, each-both P xs ys (f .1) g)
+
+pub each-at : {A : Type 0} (P : A → Type 0) (d : A) (xs : List A) → Each P xs → (k : ℕ) → k < length xs → P (getD xs k d)
+each-at P d [] f k h = absurd (omega arith)
+each-at P d (x ∷ xs) f zero h = f .0
+each-at P d (x ∷ xs) f (suc k) h = each-at P d xs (f .1) k (omega arith)
+
+abbrev pub Nonzero : ℕ → Type 0
 Nonzero c = c ≡ 0 → ⊥
 
 solid-from : (x : Tree (List ℕ)) → Each Nonzero (postfix x) → Solid x

@@ -42,8 +42,7 @@ AllNames ns = (k : ℕ) → k < length ns → IsName (getD ns k [])
 
 -- the codes and names are those of the tree x, which a text can say
 pub record Sayable (cs : List ℕ) (ns : List (List ℕ)) (x : Tree (List ℕ)) : Type 0 where
-  pub few : length ns ≤ 64
-  pub short : length cs ≤ 1280
+  pub formed : checked.WellFormed (length ns) cs
   pub codes : cs ≡ postfix x
   pub names : ns ≡ leaves x
   pub plain : Plain x
@@ -77,3 +76,7 @@ Writes cs rs out (Err f) out′ = Refused cs (map row-bytes rs) (length out) f �
 abbrev pub Copied : List ℕ → List ℕ → Result ℕ Fault → List ℕ → Type 0
 Copied s out (Ok n) out′ = (n ≡ length s) × (n ≤ length out) × (out′ ≡ s ++ drop n out)
 Copied s out (Err f) out′ = (length out < length s) × (f ≡ ShortList Text (length s)) × (out′ ≡ out)
+
+-- there is one answer, and one content of the list afterwards
+abbrev pub OneAnswer : Type 0
+OneAnswer = (cs : List ℕ) (rs : List NameRow) (out : List ℕ) (r r′ : Result ℕ Fault) (o o′ : List ℕ) → Writes cs rs out r o → Writes cs rs out r′ o′ → (r′ ≡ r) × (o′ ≡ o)

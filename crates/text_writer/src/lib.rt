@@ -9,7 +9,7 @@ ghost use Rattle.codes.specs.Tree.{Tree};
 ghost use Rattle.symbols.specs.NameRows.{row-bytes};
 ghost use Rattle.text_writer.specs.Written.{written};
 ghost use Rattle.text_writer.specs.Drafts.{content};
-ghost use Rattle.text_writer.specs.Writes.{Sayable, Copied, Writes};
+ghost use Rattle.text_writer.specs.Writes.{Sayable, Copied, Writes, OneAnswer};
 
 mod checks;
 pub mod draft;
@@ -82,4 +82,11 @@ pub fn write(codes: &[u8], names: &[NameRow], out: &mut [u8]) -> Result<usize, F
     let text = draft.text();
     check_levels(text)?;
     copy_text(text, out)
+}
+
+/// Codes and names have one answer, and one content of the list afterwards.
+pub fn one_answer() -> u8
+    ensures { λ _. ⌜ OneAnswer ⌝ }
+{
+    0
 }
