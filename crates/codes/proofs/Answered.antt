@@ -1,14 +1,14 @@
 -- The check has one answer.
-use mathlib.Core.Path.{_≡_, refl, sym, ap, subst, _∙_}
+use mathlib.Core.Path.{_≡_, refl, sym, ap, subst}
+use mathlib.Core.Logic.{inl, inr}
 use mathlib.Core.List.{List}
-use Prim.Native.Nat.{ℕ, _<_, _≤_}
+use Prim.Native.Nat.{ℕ}
 use native.Mathlib.Omega.{arith}
-use lib.ListN.{length}
-use Rattle.std.specs.declared.result.Result.{Result}
 use Rattle.std.specs.declared.result.Result.the-variants.{Ok, Err}
 use Rattle.faults.specs.declared.Fault.{Fault}
-use Rattle.faults.specs.declared.Fault.the-variants.{TooLarge, Malformed}
-use Rattle.codes.specs.Checked.{FirstFault, Refused, many-symbols, many-codes, malformed, WellFormed, Checked}
+use Rattle.faults.specs.declared.Fault.the-variants.{Malformed}
+use Rattle.codes.specs.Checked.{Refused, many-symbols, many-codes, malformed, WellFormed}
+use Rattle.codes.specs.Counting.{Limited}
 use Rattle.codes.specs.Theorems.{OneAnswer}
 use Rattle.codes.proofs.Faulty.{one-fault}
 
@@ -27,6 +27,11 @@ pub not-refused : (n : ℕ) (cs : List ℕ) (f : Fault) → WellFormed n cs → 
 not-refused n cs f w (many-symbols a) = omega (arith, w .few)
 not-refused n cs f w (many-codes a b) = omega (arith, w .short)
 not-refused n cs f w (malformed a b c) = c .none (w .tree) (w .codes)
+
+-- what is past a limit is refused for that
+pub limited-refused : (n : ℕ) (cs : List ℕ) (f : Fault) → Limited n cs (Err f) → Refused n cs f
+limited-refused n cs f (inl h) = subst (Refused n cs) (sym (h .1)) (many-symbols (h .0))
+limited-refused n cs f (inr h) = subst (Refused n cs) (sym (h .2)) (many-codes (h .0) (h .1))
 
 pub one-answer : OneAnswer
 one-answer n cs (Ok u) (Ok v) p q = refl

@@ -1,17 +1,16 @@
 -- Building and writing in postfix order are inverse.
-use mathlib.Core.Path.{_≡_, refl, sym, ap, subst, _∙_}
+use mathlib.Core.Path.{_≡_, refl, sym, ap, _∙_}
 use mathlib.Core.Bool.{Bool, true, false}
-use mathlib.Core.Logic.{_⊎_, inl, inr}
 use mathlib.Core.List.{List, [], _∷_, _++_, append-assoc, append-nil}
 use Prim.Native.Nat.{ℕ, zero, suc, _+_, _-_, _<_, _≤_}
 use native.Mathlib.Omega.{arith}
-use lib.Dec.{ltb, eqb}
-use lib.ListN.{length, take}
-use Rattle.std.proofs.shelf.Tests.{lt-ltb, ltb-true, eq-eqb, eqb-true}
+use lib.Dec.{ltb}
+use lib.ListN.{length}
+use Rattle.std.proofs.shelf.Tests.{lt-ltb, ltb-true, eq-eqb}
 use Rattle.codes.specs.Tree.{Tree, empty, leaf, then, either, maybe, many, some, postfix, leaves}
-use Rattle.codes.specs.Build.{Next, goes, stops, Built, model, fault, fresh, unary, binary, step, all-used, finish, after, build-on, build}
+use Rattle.codes.specs.Build.{Next, goes, stops, model, fresh, unary, binary, step, all-used, after, build-on, build}
 use Rattle.codes.specs.Checked.{above, CodesOf}
-use Rattle.codes.proofs.Numbers.{Cut, above-cut, above-push, length-above}
+use Rattle.codes.proofs.Numbers.{above-cut, above-push, length-above}
 
 -- from any stack on, the codes of a tree put it on top
 pub record Puts (n i u k : ℕ) (e : Tree ℕ) (s : List (Tree ℕ)) (cs : List ℕ) : Type 0 where

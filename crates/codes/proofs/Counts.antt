@@ -1,19 +1,18 @@
 -- The check of codes: one code more, and the end.
 use mathlib.Core.Path.{_≡_, refl, sym, ap, subst, _∙_}
-use mathlib.Core.Bool.{Bool, true, false}
-use mathlib.Core.Logic.{_⊎_, inl, inr}
+use mathlib.Core.Logic.{inl, inr}
 use mathlib.Core.List.{List, [], _∷_}
-use Prim.Native.Nat.{ℕ, zero, suc, _+_, _-_, _<_, _≤_}
+use Prim.Native.Nat.{ℕ, _+_, _-_, _<_, _≤_}
 use native.Mathlib.Omega.{arith}
-use lib.Dec.{ltb, eqb}
+use lib.Dec.{ltb}
 use lib.ListN.{length, getD, drop}
 use Rattle.std.proofs.shelf.Tests.{lt-ltb, eq-eqb, ne-eqb, cases-eq}
 use Rattle.std.proofs.shelf.Lists.{drop-more, drop-all}
 use Rattle.std.specs.declared.option.Option.{Option}
-use Rattle.std.specs.declared.option.Option.the-variants.{Some, None}
+use Rattle.std.specs.declared.option.Option.the-variants.{Some}
 use Rattle.codes.specs.declared.Tally.{Tally}
-use Rattle.codes.specs.Tree.{Tree, empty, leaf, then, either, maybe, many, some}
-use Rattle.codes.specs.Build.{Next, goes, stops, Built, model, fault, fresh, unary, binary, step, all-used, finish, after, build-on, build}
+use Rattle.codes.specs.Tree.{Tree, leaf, then, either, maybe, many, some}
+use Rattle.codes.specs.Build.{goes, stops, model, fault, fresh, unary, binary, step, all-used, finish, after, build-on, build}
 use Rattle.codes.specs.Counting.{Advances}
 
 -- one code

@@ -1,14 +1,14 @@
 -- Where codes build nothing, they fail at their first fault.
 use mathlib.Core.Path.{_≡_, refl, sym, ap, subst, _∙_}
 use mathlib.Core.Bool.{Bool, true, false}
-use mathlib.Core.Logic.{_⊎_, inl, inr}
+use mathlib.Core.Logic.{inl, inr}
 use mathlib.Core.List.{List, [], _∷_, _++_, append-assoc, append-nil}
 use Prim.Native.Nat.{ℕ, zero, suc, _+_, _-_, _<_, _≤_}
 use native.Mathlib.Omega.{arith}
 use lib.Dec.{eqb}
 use lib.ListN.{length, take}
 use Rattle.std.proofs.shelf.Tests.{eqb-true, cases-lt}
-use Rattle.codes.specs.Tree.{Tree, empty, leaf, then, either, maybe, many, some, postfix, leaves}
+use Rattle.codes.specs.Tree.{Tree, empty, leaf, then, postfix, leaves}
 use Rattle.codes.specs.Build.{Next, goes, stops, Built, model, fault, step, all-used, finish, after, build-on, build}
 use Rattle.codes.specs.Checked.{above, CodesOf, Begins, FirstFault}
 use Rattle.codes.specs.Theorems.{Building}

@@ -6,7 +6,7 @@ ghost use lib.ListN.{length};
 ghost use Rattle.codes.specs.Tree.{Tree};
 ghost use Rattle.codes.specs.Build.{step};
 ghost use Rattle.codes.specs.Checked.{Checked};
-ghost use Rattle.codes.specs.Counting.{Advances, OneMore};
+ghost use Rattle.codes.specs.Counting.{Advances, Limited, OneMore};
 ghost use Rattle.codes.specs.Theorems.{Building, OneAnswer, OneTree};
 use faults::Fault;
 use faults::Layer;
@@ -49,9 +49,9 @@ fn advance(tally: Tally, code: u8, symbols: usize) -> Option<Tally>
     }
 }
 
-/// Whether these are the codes of a model with so many symbols, within the limits.
-pub fn check(codes: &[u8], symbols: usize) -> Result<(), Fault>
-    ensures { λ r. ⌜ Checked symbols (now (codes .entry)) r ⌝ }
+/// Whether a model may have so many symbols, and so many codes.
+pub fn within_limits(codes: &[u8], symbols: usize) -> Result<(), Fault>
+    ensures { λ r. ⌜ Limited symbols (now (codes .entry)) r ⌝ }
 {
     if symbols > MOST_SYMBOLS {
         return Err(Fault::TooLarge {
@@ -65,6 +65,14 @@ pub fn check(codes: &[u8], symbols: usize) -> Result<(), Fault>
             limit: MOST_CODES,
         });
     }
+    Ok(())
+}
+
+/// Whether these are the codes of a model with so many symbols, within the limits.
+pub fn check(codes: &[u8], symbols: usize) -> Result<(), Fault>
+    ensures { λ r. ⌜ Checked symbols (now (codes .entry)) r ⌝ }
+{
+    within_limits(codes, symbols)?;
     let mut tally = Tally { parts: 0, used: 0 };
     for (i, code) in codes.iter().enumerate() {
         match advance(tally, *code, symbols) {

@@ -17,13 +17,15 @@ IsSolid w ns = (x : Tree (List ℕ)) × Solid x × (w ≡ postfix x) × (ns ≡ 
 abbrev Grows : List ℕ → List (List ℕ) → Type 0
 Grows v ms = (a : Tree (List ℕ)) → Solid a → IsSolid (postfix a ++ v) (leaves a ++ ms)
 
+-- what each production makes: a tree, or the rest of one behind any tree
 abbrev Made : Sym → List ℕ → List (List ℕ) → Type 0
 Made cp w ns = IsSolid w ns
 Made choice w ns = IsSolid w ns
 Made seq w ns = IsSolid w ns
 Made (rest g) w ns = Grows w ns
 
-with-marks : {t : List ℕ} {i j : ℕ} (w : List ℕ) {m : List ℕ} (ns : List (List ℕ)) → IsSolid w ns → Marks t i j m → IsSolid (w ++ m) ns
+with-marks : {t : List ℕ} {i j : ℕ} (w : List ℕ) {m : List ℕ} (ns : List (List ℕ)) → IsSolid w ns → Marks t i j m →
+    IsSolid (w ++ m) ns
 with-marks w ns (x, s, e, f) unmarked = (x, s, append-nil w ∙ e, f)
 with-marks w ns (x, s, e, f) (with-mark (is-query b c)) = (maybe x, s, ap (λ (y : ℕ). w ++ (y ∷ [])) c ∙ ap (λ (l : List ℕ). l ++ (4 ∷ [])) e, f)
 with-marks w ns (x, s, e, f) (with-mark (is-star b c)) = (many x, s, ap (λ (y : ℕ). w ++ (y ∷ [])) c ∙ ap (λ (l : List ℕ). l ++ (5 ∷ [])) e, f)
@@ -33,7 +35,8 @@ first-then : (w v : List ℕ) (ns ms : List (List ℕ)) → IsSolid w ns → Gro
 first-then w v ns ms (x, s, e, f) g = let z = g x s in (z .0, z .1, ap (λ (l : List ℕ). l ++ v) e ∙ z .2, ap (λ (l : List (List ℕ)). l ++ ms) f ∙ z .3)
 
 -- one particle more
-grows-next : (g : Chain) (w v : List ℕ) (ns ms : List (List ℕ)) → IsSolid w ns → Grows v ms → Grows ((w ++ (code g ∷ [])) ++ v) (ns ++ ms)
+grows-next : (g : Chain) (w v : List ℕ) (ns ms : List (List ℕ)) → IsSolid w ns → Grows v ms →
+    Grows ((w ++ (code g ∷ [])) ++ v) (ns ++ ms)
 grows-next Choice w v ns ms (b, s, e, f) g a u =
     let z = g (either a b) (u, s) in
     (z .0, z .1, sym (append-assoc (postfix a) (w ++ (3 ∷ [])) v) ∙ ap (λ (l : List ℕ). (postfix a ++ (l ++ (3 ∷ []))) ++ v) e ∙ z .2, sym (append-assoc (leaves a) ns ms) ∙ ap (λ (l : List (List ℕ)). (leaves a ++ l) ++ ms) f ∙ z .3)

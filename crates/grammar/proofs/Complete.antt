@@ -3,7 +3,7 @@ use mathlib.Core.Path.{_≡_, refl, sym, ap, subst, _∙_}
 use mathlib.Core.Bool.{Bool, false}
 use mathlib.Core.List.{List, [], _∷_, _++_}
 use mathlib.Core.Logic.{_⊎_, ⊎-elim}
-use Prim.Native.Nat.{ℕ, _+_, _-_, _≤_, _<_}
+use Prim.Native.Nat.{ℕ, _+_, _≤_, _<_}
 use native.Mathlib.Omega.{arith}
 use lib.Chars.{codes}
 use lib.ListN.{length, getD, length-append}
@@ -26,13 +26,15 @@ use Rattle.grammar.proofs.Edges.{clash, Closed, start-black, sign-black, at-en
 same : {p : ℕ → Bool} {t : List ℕ} {i j k : ℕ} → While p t i j → Longest p t i k → p (getD t j 0) ≡ false → k ≡ j
 same r q a = same-run r (q .run) a (q .ends)
 
-same-mark : (t : List ℕ) {k j j′ : ℕ} {m m′ : List ℕ} → Marks t k j m → Mark t k j′ m′ → Closed t j → (j′ ≡ j) × (m′ ≡ m)
+same-mark : (t : List ℕ) {k j j′ : ℕ} {m m′ : List ℕ} → Marks t k j m → Mark t k j′ m′ → Closed t j →
+    (j′ ≡ j) × (m′ ≡ m)
 same-mark t unmarked (none _) f = (refl, refl)
 same-mark t unmarked (one k) f = absurd (f .no-mark _ k)
 same-mark t {k} (with-mark h) (none f) _ = absurd (f _ (mark-tok t k h))
 same-mark t {k} (with-mark h) (one x) _ = (refl, ap (λ (n : ℕ). n ∷ []) (one-code x (mark-tok t k h)))
 
--- what a fault says of a derivation with names of at most n bytes, d levels and m names: e levels were left
+-- the limit that a refusal names is passed by a derivation with names of at most n bytes, d levels and m names, where e
+-- levels were left
 abbrev pub Past : ℕ → ℕ → ℕ → ℕ → Cause → Type 0
 Past n d e m strange-byte = ⊥
 Past n d e m unexpected = ⊥
@@ -54,20 +56,25 @@ past-deeper n d e x y m long-name a b p = p
 past-deeper n d e x y m too-deep a b p = omega arith
 past-deeper n d e x y m too-many a b p = p
 
+-- the outcome of the rules, where e levels were left and c names were read before, agrees with a derivation that ends at j
+-- with codes w and names ns: it is the same, or the refusal is for a limit that the derivation passes
 abbrev pub Agrees : ℕ → ℕ → ℕ → ℕ → Outcome → ℕ → List ℕ → List (List ℕ) → Type 0
 Agrees n d e c (good j′ w′ ns′) j w ns = (j′ ≡ j) × (w′ ≡ w) × (ns′ ≡ ns)
 Agrees n d e c (bad f k) j w ns = Past n d e (c + length ns) f
 
 -- a part and what follows it
-agrees-after : (n d e c x j : ℕ) (w w′ v : List ℕ) (ns ns′ ms : List (List ℕ)) (o : Outcome) → w′ ≡ w → ns′ ≡ ns → x ≡ c + length ns′ → Agrees n d e x o j v ms → Agrees n d e c (after w′ ns′ o) j (w ++ v) (ns ++ ms)
+agrees-after : (n d e c x j : ℕ) (w w′ v : List ℕ) (ns ns′ ms : List (List ℕ)) (o : Outcome) → w′ ≡ w → ns′ ≡ ns →
+    x ≡ c + length ns′ → Agrees n d e x o j v ms → Agrees n d e c (after w′ ns′ o) j (w ++ v) (ns ++ ms)
 agrees-after n d e c x j w w′ v ns ns′ ms (good j′ v′ ms′) a b h (p, q, r) = (p, cc, cc)
 agrees-after n d e c x j w w′ v ns ns′ ms (bad f k) a b h p = let l = length-append ns ms in let z : length ns′ ≡ length ns = ap length b in past-more n d e (x + length ms) (c + length (ns ++ ms)) f (omega arith) p
 
-agrees-first : (n d e c j : ℕ) (w v : List ℕ) (ns ms : List (List ℕ)) (f : Cause) (k : ℕ) → Past n d e (c + length ns) f → Agrees n d e c (bad f k) j (w ++ v) (ns ++ ms)
+agrees-first : (n d e c j : ℕ) (w v : List ℕ) (ns ms : List (List ℕ)) (f : Cause) (k : ℕ) → Past n d e (c + length ns) f →
+    Agrees n d e c (bad f k) j (w ++ v) (ns ++ ms)
 agrees-first n d e c j w v ns ms f k p = past-more n d e (c + length ns) (c + length (ns ++ ms)) f (omega (arith, length-append ns ms)) p
 
 -- a name
-compare-name : (t : List ℕ) (n d : ℕ) {b k j i e c : ℕ} {m : List ℕ} {o : Outcome} → Name t n b k → Marks t k j m → While white t i b → Reads t particle e i c o → Closed t j → Agrees n d e c o j (1 ∷ m) (slice t b k ∷ [])
+compare-name : (t : List ℕ) (n d : ℕ) {b k j i e c : ℕ} {m : List ℕ} {o : Outcome} → Name t n b k → Marks t k j m →
+    While white t i b → Reads t particle e i c o → Closed t j → Agrees n d e c o j (1 ∷ m) (slice t b k ∷ [])
 compare-name t n d {b} {k} nm mk a (p-name {b = b′} {k = k′} {j = j′} {m = m′} a′ s r h z mk′) f =
     let eb : b′ ≡ b = same a a′ (start-black (getD t b 0) (nm .first)) in
     let ek : k′ ≡ k = same (nm .later) (subst (λ (x : ℕ). Longest inner t (x + 1) k′) eb r) (marks-outside t mk f) in
@@ -83,11 +90,13 @@ compare-name t n d {b} nm mk a (p-group a′ s h r m) f = absurd (clash (ap (tok
 compare-name t n d {b} nm mk a (p-group-bad a′ s h r) f = absurd (clash (ap (tok t) (same a a′ (start-black (getD t b 0) (nm .first))) ∙ tok-word t b (nm .first)) s)
 compare-name t n d {b} nm mk a (p-none a′ x y) f = absurd (x (ap (tok t) (same a a′ (start-black (getD t b 0) (nm .first))) ∙ tok-word t b (nm .first)))
 
--- a group
+-- a group: the rules for its inside agree with a derivation of it
 abbrev Inside : List ℕ → ℕ → ℕ → ℕ → ℕ → List ℕ → List (List ℕ) → Type 0
 Inside t n d i j w ns = (x e c : ℕ) (o : Outcome) → d ≡ x + 1 → Reads t body e (i + 1) c o → Agrees n x e c o j w ns
 
-compare-group : (t : List ℕ) (n d x : ℕ) {b k j i e c : ℕ} {w m : List ℕ} {ns : List (List ℕ)} {o : Outcome} → getD t b 0 ≡ 40 → d ≡ x + 1 → Inside t n d b k w ns → Marks t k j m → While white t i b → Reads t particle e i c o → Closed t j → Agrees n d e c o j (w ++ m) ns
+compare-group : (t : List ℕ) (n d x : ℕ) {b k j i e c : ℕ} {w m : List ℕ} {ns : List (List ℕ)} {o : Outcome} →
+    getD t b 0 ≡ 40 → d ≡ x + 1 → Inside t n d b k w ns → Marks t k j m → While white t i b → Reads t particle e i c o →
+    Closed t j → Agrees n d e c o j (w ++ m) ns
 compare-group t n d x {b} br dx ih mk a (p-name a′ s r h z m) f = absurd (clash s (ap (tok t) (same a a′ (ap white br)) ∙ tok-open t b br))
 compare-group t n d x {b} br dx ih mk a (p-long a′ s r h) f = absurd (clash s (ap (tok t) (same a a′ (ap white br)) ∙ tok-open t b br))
 compare-group t n d x {b} br dx ih mk a (p-many a′ s r h z) f = absurd (clash s (ap (tok t) (same a a′ (ap white br)) ∙ tok-open t b br))
@@ -104,13 +113,17 @@ compare-group t n d x {b} {k} {j} {i} {e} {c} {w} {m} {ns} br dx ih mk a (p-grou
     past-deeper n d e x y (c + length ns) q dx h (ih x y c (bad q k′) dx (subst (λ (z : ℕ). Reads t body y (z + 1) c (bad q k′)) eb r))
 compare-group t n d x {b} br dx ih mk a (p-none a′ u v) f = absurd (v (ap (tok t) (same a a′ (ap white br)) ∙ tok-open t b br))
 
+-- the rules agree with a derivation by the production, where nothing goes on with a particle behind its end
 abbrev Compared : List ℕ → ℕ → Sym → ℕ → ℕ → ℕ → List ℕ → List (List ℕ) → Type 0
 Compared t n cp d b j w ns = (i e c : ℕ) (o : Outcome) → While white t i b → Reads t particle e i c o → Closed t j → Agrees n d e c o j w ns
 Compared t n choice d i j w ns = Inside t n d i j w ns
 Compared t n seq d i j w ns = Inside t n d i j w ns
 Compared t n (rest g) d i j w ns = (e c : ℕ) (o : Outcome) → Reads t (onward g) e i c o → Agrees n d e c o j w ns
 
-compare-body : (t : List ℕ) (n x : ℕ) (g : Chain) {i b k j e c : ℕ} {w v : List ℕ} {ns ms : List (List ℕ)} {o : Outcome} → While white t i b → Compared t n cp x b k w ns → Closed t k → ((l : ℕ) → Longest white t k l → chainOf (tok t l) ≡ g) → Compared t n (rest g) x k j v ms → Reads t body e i c o → Agrees n x e c o j (w ++ v) (ns ++ ms)
+compare-body : (t : List ℕ) (n x : ℕ) (g : Chain) {i b k j e c : ℕ} {w v : List ℕ} {ns ms : List (List ℕ)} {o : Outcome} →
+    While white t i b → Compared t n cp x b k w ns → Closed t k →
+    ((l : ℕ) → Longest white t k l → chainOf (tok t l) ≡ g) → Compared t n (rest g) x k j v ms → Reads t body e i c o →
+    Agrees n x e c o j (w ++ v) (ns ++ ms)
 compare-body t n x g {i} {b} {k} {j} {e} {c} {w} {v} {ns} {ms} a p cl ch q (b-bad {k = y} {f = f} r) = agrees-first n x e c j w v ns ms f y (p i e c (bad f y) a r cl)
 compare-body t n x g {i} {b} {k} {j} {e} {c} {w} {v} {ns} {ms} a p cl ch q (b-goes-on {k = k′} {l = l} {x = y} {w = w′} {ns = ns′} {g = g′} {o = o′} r u h z q′) =
     let s = p i e c (good k′ w′ ns′) a r cl in
@@ -120,16 +133,21 @@ compare-body t n x g {i} {b} {k} {j} {e} {c} {w} {v} {ns} {ms} a p cl ch q (b-go
     agrees-after n x e c y j w w′ v ns ns′ ms o′ (s .1) (s .2) z (q e y o′ (subst (λ (d : Chain). Reads t (onward d) e k y o′) eg there))
 
 -- behind the last part of a group
-done-here : (t : List ℕ) {l l′ i : ℕ} → While white t i l → Longest white t i l′ → getD t l 0 ≡ 41 → (l′ ≡ l) × (tok t l′ ≡ closes)
+done-here : (t : List ℕ) {l l′ i : ℕ} → While white t i l → Longest white t i l′ → getD t l 0 ≡ 41 →
+    (l′ ≡ l) × (tok t l′ ≡ closes)
 done-here t {l} a a′ e = let h = same a a′ (ap white e) in (h, ap (tok t) h ∙ tok-close t l e)
 
-compare-done : (t : List ℕ) (n d : ℕ) {g : Chain} {i l e c : ℕ} {o : Outcome} → While white t i l → getD t l 0 ≡ 41 → Reads t (onward g) e i c o → Agrees n d e c o (l + 1) [] []
+compare-done : (t : List ℕ) (n d : ℕ) {g : Chain} {i l e c : ℕ} {o : Outcome} → While white t i l → getD t l 0 ≡ 41 →
+    Reads t (onward g) e i c o → Agrees n d e c o (l + 1) [] []
 compare-done t n d a e (o-done a′ s) = (ap (λ (y : ℕ). y + 1) (done-here t a a′ e .0), refl, refl)
 compare-done t n d a e (o-bad {g = g} a′ s r) = absurd (not-both s (ap (joins g) (done-here t a a′ e .1) ∙ joins-close g))
 compare-done t n d a e (o-next {g = g} a′ s r x q) = absurd (not-both s (ap (joins g) (done-here t a a′ e .1) ∙ joins-close g))
 compare-done t n d a e (o-none a′ x y) = absurd (x (done-here t a a′ e .1))
 
-compare-next : (t : List ℕ) (n d : ℕ) (g : Chain) {i l b k j e c : ℕ} {w v : List ℕ} {ns ms : List (List ℕ)} {o : Outcome} → While white t i l → getD t l 0 ≡ sign g → While white t (l + 1) b → Compared t n cp d b k w ns → Closed t k → Compared t n (rest g) d k j v ms → Reads t (onward g) e i c o → Agrees n d e c o j ((w ++ (code g ∷ [])) ++ v) (ns ++ ms)
+compare-next : (t : List ℕ) (n d : ℕ) (g : Chain) {i l b k j e c : ℕ} {w v : List ℕ} {ns ms : List (List ℕ)} {o : Outcome} →
+    While white t i l → getD t l 0 ≡ sign g → While white t (l + 1) b → Compared t n cp d b k w ns → Closed t k →
+    Compared t n (rest g) d k j v ms → Reads t (onward g) e i c o →
+    Agrees n d e c o j ((w ++ (code g ∷ [])) ++ v) (ns ++ ms)
 compare-next t n d g {l = l} a s b p cl q (o-done a′ z) = absurd (not-both (tok-joins t l g s) (ap (joins g) (ap (tok t) (sym (same a a′ (sign-black (getD t l 0) g s))) ∙ z) ∙ joins-close g))
 compare-next t n d g {i} {l} {b} {k} {j} {e} {c} {w} {v} {ns} {ms} a s u p cl q (o-bad {l = l′} {k = y} {f = f} a′ z r) =
     let el : l′ ≡ l = same a a′ (sign-black (getD t l 0) g s) in
@@ -140,15 +158,18 @@ compare-next t n d g {i} {l} {b} {k} {j} {e} {c} {w} {v} {ns} {ms} a s u p cl q 
     agrees-after n d e c y j (w ++ (code g ∷ [])) (w′ ++ (code g ∷ [])) v ns ns′ ms o′ (ap (λ (f : List ℕ). f ++ (code g ∷ [])) (h .1)) (h .2) x (q e y o′ (subst (λ (f : ℕ). Reads t (onward g) e f y o′) (h .0) q′))
 compare-next t n d g {i} {l} a s u p cl q (o-none a′ x y) = absurd (not-both (ap (λ (z : ℕ). joins g (tok t z)) (same a a′ (sign-black (getD t l 0) g s)) ∙ tok-joins t l g s) y)
 
-choice-chain : (t : List ℕ) {k l : ℕ} → While white t k l → getD t l 0 ≡ 124 → (l′ : ℕ) → Longest white t k l′ → chainOf (tok t l′) ≡ Choice
+choice-chain : (t : List ℕ) {k l : ℕ} → While white t k l → getD t l 0 ≡ 124 → (l′ : ℕ) → Longest white t k l′ →
+    chainOf (tok t l′) ≡ Choice
 choice-chain t {k} {l} a e l′ u = ap (λ (y : ℕ). chainOf (tok t y)) (same a u (ap white e)) ∙ ap chainOf (tok-bar t l e)
 
-seq-chain : (t : List ℕ) {n d k j : ℕ} {v : List ℕ} {ms : List (List ℕ)} → Is t n (rest Seq) d k j v ms → (l′ : ℕ) → Longest white t k l′ → chainOf (tok t l′) ≡ Seq
+seq-chain : (t : List ℕ) {n d k j : ℕ} {v : List ℕ} {ms : List (List ℕ)} → Is t n (rest Seq) d k j v ms → (l′ : ℕ) →
+    Longest white t k l′ → chainOf (tok t l′) ≡ Seq
 seq-chain t r l′ u =
     let h = head-rest t r in
     ⊎-elim (λ e. ap (λ (y : ℕ). chainOf (tok t y)) (same (h .1) u (ap white e)) ∙ ap chainOf (tok-close t (h .0) e)) (λ e. ap (λ (y : ℕ). chainOf (tok t y)) (same (h .1) u (ap white e)) ∙ ap chainOf (tok-comma t (h .0) e)) (h .2)
 
-complete : {t : List ℕ} {n : ℕ} {s : Sym} {d i j : ℕ} {w : List ℕ} {ns : List (List ℕ)} → Is t n s d i j w ns → Compared t n s d i j w ns
+complete : {t : List ℕ} {n : ℕ} {s : Sym} {d i j : ℕ} {w : List ℕ} {ns : List (List ℕ)} → Is t n s d i j w ns →
+    Compared t n s d i j w ns
 complete {t} {n} {s} {d} (cp-name nm mk) = λ i e c o a r f. compare-name t n d nm mk a r f
 complete {t} {n} {s} {d} (cp-choice r mk) = let h = head-choice r in λ i e c o a q f. compare-group t n d (h .level) (h .bracket) (h .down) (complete r) mk a q f
 complete {t} {n} {s} {d} (cp-seq r mk) = let h = head-seq r in λ i e c o a q f. compare-group t n d (h .level) (h .bracket) (h .down) (complete r) mk a q f
@@ -164,7 +185,8 @@ complete {t} {n} {s} {d} (rest-done a h) = λ e c o r. compare-done t n d a h r
 complete {t} {n} {s} {d} (rest-next {g = g} a h u p q) = λ e c o r. compare-next t n d g a h u (complete p) (after-cp t g q) (complete q) r
 
 -- Mixed
-compare-named : (t : List ℕ) (n d y : ℕ) {b k i e c : ℕ} {o : Outcome} → Name t n b k → inner (getD t k 0) ≡ false → While white t i b → Reads t named e i c o → Agrees n d y c o k (1 ∷ []) (slice t b k ∷ [])
+compare-named : (t : List ℕ) (n d y : ℕ) {b k i e c : ℕ} {o : Outcome} → Name t n b k → inner (getD t k 0) ≡ false →
+    While white t i b → Reads t named e i c o → Agrees n d y c o k (1 ∷ []) (slice t b k ∷ [])
 compare-named t n d y {b} {k} nm f a (n-name {b = b′} {k = k′} a′ s r h z) =
     let eb : b′ ≡ b = same a a′ (start-black (getD t b 0) (nm .first)) in
     let ek : k′ ≡ k = same (nm .later) (subst (λ (x : ℕ). Longest inner t (x + 1) k′) eb r) f in
@@ -176,19 +198,24 @@ compare-named t n d y {b} {k} nm f a (n-long {b = b′} {k = k′} a′ s r h) =
 compare-named t n d y nm f a (n-many a′ s r h z) = omega arith
 compare-named t n d y {b} nm f a (n-none a′ x) = absurd (x (ap (tok t) (same a a′ (start-black (getD t b 0) (nm .first))) ∙ tok-word t b (nm .first)))
 
-bar-here : (t : List ℕ) {l l′ i : ℕ} → While white t i l → Longest white t i l′ → getD t l 0 ≡ 124 → (l′ ≡ l) × (tok t l′ ≡ bar)
+bar-here : (t : List ℕ) {l l′ i : ℕ} → While white t i l → Longest white t i l′ → getD t l 0 ≡ 124 →
+    (l′ ≡ l) × (tok t l′ ≡ bar)
 bar-here t {l} a a′ e = let h = same a a′ (ap white e) in (h, ap (tok t) h ∙ tok-bar t l e)
 
 clash′ : {k : Tok} → k ≡ closes → k ≡ bar → ⊥
 clash′ a b = let z : _≡_ {A = ℕ} 0 1 = cc in omega arith
 
-listed-end : (t : List ℕ) (n d y : ℕ) {i l e c : ℕ} {o : Outcome} → While white t i l → getD t l 0 ≡ 41 → Reads t listed e i c o → Agrees n d y c o (l + 1) [] []
+listed-end : (t : List ℕ) (n d y : ℕ) {i l e c : ℕ} {o : Outcome} → While white t i l → getD t l 0 ≡ 41 →
+    Reads t listed e i c o → Agrees n d y c o (l + 1) [] []
 listed-end t n d y a h (l-done a′ s) = (ap (λ (x : ℕ). x + 1) (done-here t a a′ h .0), refl, refl)
 listed-end t n d y a h (l-bad a′ s r) = absurd (clash′ (done-here t a a′ h .1) s)
 listed-end t n d y a h (l-next a′ s r x q) = absurd (clash′ (done-here t a a′ h .1) s)
 listed-end t n d y a h (l-none a′ x _) = absurd (x (done-here t a a′ h .1))
 
-listed-more : (t : List ℕ) (n d y : ℕ) {i l b k j e c : ℕ} {v : List ℕ} {ms : List (List ℕ)} {o : Outcome} → While white t i l → getD t l 0 ≡ 124 → While white t (l + 1) b → Name t n b k → inner (getD t k 0) ≡ false → ((e c : ℕ) (o : Outcome) → Reads t listed e k c o → Agrees n d y c o j v ms) → Reads t listed e i c o → Agrees n d y c o j (1 ∷ (3 ∷ v)) (slice t b k ∷ ms)
+listed-more : (t : List ℕ) (n d y : ℕ) {i l b k j e c : ℕ} {v : List ℕ} {ms : List (List ℕ)} {o : Outcome} →
+    While white t i l → getD t l 0 ≡ 124 → While white t (l + 1) b → Name t n b k → inner (getD t k 0) ≡ false →
+    ((e c : ℕ) (o : Outcome) → Reads t listed e k c o → Agrees n d y c o j v ms) → Reads t listed e i c o →
+    Agrees n d y c o j (1 ∷ (3 ∷ v)) (slice t b k ∷ ms)
 listed-more t n d y a h u nm f q (l-done a′ s) = absurd (clash′ s (bar-here t a a′ h .1))
 listed-more t n d y {i} {l} {b} {k} {j} {e} {c} {v} {ms} a h u nm f q (l-bad {k = z} {f = g} a′ s r) =
     agrees-first n d y c j (1 ∷ (3 ∷ [])) v (slice t b k ∷ []) ms g z (compare-named t n d y nm f u (subst (λ (x : ℕ). Reads t named e (x + 1) c (bad g z)) (bar-here t a a′ h .0) r))
@@ -197,11 +224,13 @@ listed-more t n d y {i} {l} {b} {k} {j} {e} {c} {v} {ms} a h u nm f q (l-next {k
     agrees-after n d y c x j (1 ∷ (3 ∷ [])) (w′ ++ (3 ∷ [])) v (slice t b k ∷ []) ns′ ms o′ (ap (λ (g : List ℕ). g ++ (3 ∷ [])) (p .1)) (p .2) z (q e x o′ (subst (λ (g : ℕ). Reads t listed e g x o′) (p .0) q′))
 listed-more t n d y a h u nm f q (l-none a′ _ x) = absurd (x (bar-here t a a′ h .1))
 
-complete-listed : (t : List ℕ) (n d y : ℕ) {i j : ℕ} {v : List ℕ} {ms : List (List ℕ)} → Listed t n i j v ms → (e c : ℕ) (o : Outcome) → Reads t listed e i c o → Agrees n d y c o j v ms
+complete-listed : (t : List ℕ) (n d y : ℕ) {i j : ℕ} {v : List ℕ} {ms : List (List ℕ)} → Listed t n i j v ms →
+    (e c : ℕ) (o : Outcome) → Reads t listed e i c o → Agrees n d y c o j v ms
 complete-listed t n d y (listed-done a h) = λ e c o r. listed-end t n d y a h r
 complete-listed t n d y (listed-next a h u nm q) = λ e c o r. listed-more t n d y a h u nm (listed-outside t q) (complete-listed t n d y q) r
 
-mix-alone : (t : List ℕ) (n d : ℕ) {i l : ℕ} {o : Outcome} → While white t i l → getD t l 0 ≡ 41 → Closed t (l + 1) → Mixes t i o → Agrees n d 16 0 o (l + 1) (0 ∷ []) []
+mix-alone : (t : List ℕ) (n d : ℕ) {i l : ℕ} {o : Outcome} → While white t i l → getD t l 0 ≡ 41 → Closed t (l + 1) →
+    Mixes t i o → Agrees n d 16 0 o (l + 1) (0 ∷ []) []
 mix-alone t n d a h cl (x-text a′ s f) = (ap (λ (x : ℕ). x + 1) (done-here t a a′ h .0), refl, refl)
 mix-alone t n d {i} {l} a h cl (x-star {l = l′} a′ s f) = absurd (cl .no-mark 5 (star-5 (ap (λ (x : ℕ). tok t (x + 1)) (sym (done-here t a a′ h .0)) ∙ f) refl))
 mix-alone t n d a h cl (x-none a′ x _) = absurd (x (done-here t a a′ h .1))
@@ -210,7 +239,8 @@ mix-alone t n d a h cl (x-list-bad a′ s r x q) = absurd (clash′ (done-here t
 mix-alone t n d a h cl (x-names a′ s r x q f) = absurd (clash′ (done-here t a a′ h .1) s)
 mix-alone t n d a h cl (x-no-star a′ s r x q f g) = absurd (clash′ (done-here t a a′ h .1) s)
 
-mix-star : (t : List ℕ) (n d : ℕ) {i l : ℕ} {o : Outcome} → While white t i l → getD t l 0 ≡ 41 → getD t (l + 1) 0 ≡ 42 → Mixes t i o → Agrees n d 16 0 o (l + 1 + 1) (0 ∷ []) []
+mix-star : (t : List ℕ) (n d : ℕ) {i l : ℕ} {o : Outcome} → While white t i l → getD t l 0 ≡ 41 → getD t (l + 1) 0 ≡ 42 →
+    Mixes t i o → Agrees n d 16 0 o (l + 1 + 1) (0 ∷ []) []
 mix-star t n d {i} {l} a h z (x-text a′ s f) = absurd (f (ap (λ (x : ℕ). tok t (x + 1)) (done-here t a a′ h .0) ∙ tok-star t (l + 1) z))
 mix-star t n d a h z (x-star a′ s f) = (ap (λ (x : ℕ). x + 1 + 1) (done-here t a a′ h .0), refl, refl)
 mix-star t n d a h z (x-none a′ x _) = absurd (x (done-here t a a′ h .1))
@@ -219,7 +249,9 @@ mix-star t n d a h z (x-list-bad a′ s r x q) = absurd (clash′ (done-here t a
 mix-star t n d a h z (x-names a′ s r x q f) = absurd (clash′ (done-here t a a′ h .1) s)
 mix-star t n d a h z (x-no-star a′ s r x q f g) = absurd (clash′ (done-here t a a′ h .1) s)
 
-mix-names : (t : List ℕ) (n d : ℕ) {i l b k j : ℕ} {v : List ℕ} {ms : List (List ℕ)} {o : Outcome} → While white t i l → getD t l 0 ≡ 124 → While white t (l + 1) b → Name t n b k → Listed t n k j v ms → getD t j 0 ≡ 42 → Mixes t i o → Agrees n d 16 0 o (j + 1) ((1 ∷ v) ++ (5 ∷ [])) (slice t b k ∷ ms)
+mix-names : (t : List ℕ) (n d : ℕ) {i l b k j : ℕ} {v : List ℕ} {ms : List (List ℕ)} {o : Outcome} → While white t i l →
+    getD t l 0 ≡ 124 → While white t (l + 1) b → Name t n b k → Listed t n k j v ms → getD t j 0 ≡ 42 → Mixes t i o →
+    Agrees n d 16 0 o (j + 1) ((1 ∷ v) ++ (5 ∷ [])) (slice t b k ∷ ms)
 mix-names t n d a h u nm q z (x-text a′ s f) = absurd (clash′ s (bar-here t a a′ h .1))
 mix-names t n d a h u nm q z (x-star a′ s f) = absurd (clash′ s (bar-here t a a′ h .1))
 mix-names t n d a h u nm q z (x-none a′ _ x) = absurd (x (bar-here t a a′ h .1))
@@ -238,7 +270,8 @@ mix-names t n d {i} {l} {b} {k} {j} {v} {ms} a h u nm q z (x-no-star {k = k′} 
     let o = complete-listed t n d 16 q 15 c (good j′ v′ ms′) (subst (λ (g : ℕ). Reads t listed 15 g c (good j′ v′ ms′)) (p .0) q′) in
     absurd (f (ap (tok t) (o .0) ∙ tok-star t j z))
 
-open-empty : (t : List ℕ) (n d : ℕ) {b i : ℕ} {o : Outcome} → slice t b (b + 5) ≡ codes "EMPTY" → While white t i b → Closed t (b + 5) → Opens t i o → Agrees n d 16 0 o (b + 5) (0 ∷ []) []
+open-empty : (t : List ℕ) (n d : ℕ) {b i : ℕ} {o : Outcome} → slice t b (b + 5) ≡ codes "EMPTY" → While white t i b →
+    Closed t (b + 5) → Opens t i o → Agrees n d 16 0 o (b + 5) (0 ∷ []) []
 open-empty t n d {b} e a cl (c-empty {b = b′} {k = k′} a′ s r h) =
     let eb : b′ ≡ b = same a a′ (start-black (getD t b 0) (empty-start t b e)) in
     (same (empty-run t b e) (subst (λ (x : ℕ). Longest inner t (x + 1) k′) eb r) (cl .no-inner), refl, refl)
@@ -251,7 +284,10 @@ open-empty t n d {b} e a cl (c-mixed a′ s u p x) = absurd (clash (ap (tok t) (
 open-empty t n d {b} e a cl (c-children a′ s u p x m) = absurd (clash (ap (tok t) (same a a′ (start-black (getD t b 0) (empty-start t b e))) ∙ tok-word t b (empty-start t b e)) s)
 open-empty t n d {b} e a cl (c-bad a′ s u p x) = absurd (clash (ap (tok t) (same a a′ (start-black (getD t b 0) (empty-start t b e))) ∙ tok-word t b (empty-start t b e)) s)
 
-open-mixed : (t : List ℕ) (n d : ℕ) {b i y j : ℕ} {w : List ℕ} {ns : List (List ℕ)} {o : Outcome} → getD t b 0 ≡ 40 → While white t (b + 1) y → slice t y (y + 7) ≡ codes "#PCDATA" → ((o : Outcome) → Mixes t (y + 7) o → Agrees n d 16 0 o j w ns) → While white t i b → Opens t i o → Agrees n d 16 0 o j w ns
+open-mixed : (t : List ℕ) (n d : ℕ) {b i y j : ℕ} {w : List ℕ} {ns : List (List ℕ)} {o : Outcome} → getD t b 0 ≡ 40 →
+    While white t (b + 1) y → slice t y (y + 7) ≡ codes "#PCDATA" →
+    ((o : Outcome) → Mixes t (y + 7) o → Agrees n d 16 0 o j w ns) → While white t i b → Opens t i o →
+    Agrees n d 16 0 o j w ns
 open-mixed t n d {b} br u p k a (c-empty a′ s r h) = absurd (clash s (ap (tok t) (same a a′ (ap white br)) ∙ tok-open t b br))
 open-mixed t n d {b} br u p k a (c-word a′ s r h) = absurd (clash s (ap (tok t) (same a a′ (ap white br)) ∙ tok-open t b br))
 open-mixed t n d {b} br u p k a (c-none a′ x y) = absurd (y (ap (tok t) (same a a′ (ap white br)) ∙ tok-open t b br))
@@ -268,7 +304,9 @@ open-mixed t n d {b} {i} {y} br u p k a (c-bad {b = b′} {l = l′} a′ s u′
     let el : l′ ≡ y = same u (subst (λ (z : ℕ). Longest white t (z + 1) l′) eb u′) (ap white (hash-byte t y p)) in
     absurd (p′ (ap (tok t) el ∙ pcdata-tok t y p))
 
-open-children : (t : List ℕ) (n d : ℕ) {b k j i : ℕ} {w m : List ℕ} {ns : List (List ℕ)} {o : Outcome} → Head t d b → Inside t n d b k w ns → Marks t k j m → While white t i b → Closed t j → Opens t i o → Agrees n d 16 0 o j (w ++ m) ns
+open-children : (t : List ℕ) (n d : ℕ) {b k j i : ℕ} {w m : List ℕ} {ns : List (List ℕ)} {o : Outcome} → Head t d b →
+    Inside t n d b k w ns → Marks t k j m → While white t i b → Closed t j → Opens t i o →
+    Agrees n d 16 0 o j (w ++ m) ns
 open-children t n d {b} hd ih mk a f (c-empty a′ s r h) = absurd (clash s (ap (tok t) (same a a′ (ap white (hd .bracket))) ∙ tok-open t b (hd .bracket)))
 open-children t n d {b} hd ih mk a f (c-word a′ s r h) = absurd (clash s (ap (tok t) (same a a′ (ap white (hd .bracket))) ∙ tok-open t b (hd .bracket)))
 open-children t n d {b} hd ih mk a f (c-none a′ x y) = absurd (y (ap (tok t) (same a a′ (ap white (hd .bracket))) ∙ tok-open t b (hd .bracket)))
@@ -287,22 +325,26 @@ open-children t n d {b} {k} {j} {i} {w} {m} {ns} hd ih mk a f (c-bad {b = b′} 
     let eb : b′ ≡ b = same a a′ (ap white (hd .bracket)) in
     past-deeper n d 16 (hd .level) 15 (0 + length ns) q (hd .down) refl (ih (hd .level) 15 0 (bad q k′) (hd .down) (subst (λ (z : ℕ). Reads t body 15 (z + 1) 0 (bad q k′)) eb r))
 
-mixed-agrees : (t : List ℕ) (n d : ℕ) {b i j : ℕ} {w : List ℕ} {ns : List (List ℕ)} {o : Outcome} → Mixed t n b j w ns → While white t i b → Closed t j → Opens t i o → Agrees n d 16 0 o j w ns
+mixed-agrees : (t : List ℕ) (n d : ℕ) {b i j : ℕ} {w : List ℕ} {ns : List (List ℕ)} {o : Outcome} → Mixed t n b j w ns →
+    While white t i b → Closed t j → Opens t i o → Agrees n d 16 0 o j w ns
 mixed-agrees t n d (text-alone br u p z e) a cl r = open-mixed t n d br u p (λ o x. mix-alone t n d z e cl x) a r
 mixed-agrees t n d (text-star br u p z e s) a cl r = open-mixed t n d br u p (λ o x. mix-star t n d z e s x) a r
 mixed-agrees t n d (text-names br u p z e y nm q s) a cl r = open-mixed t n d br u p (λ o x. mix-names t n d z e y nm q s x) a r
 
-open-agrees : (t : List ℕ) (n d : ℕ) {b i j : ℕ} {w : List ℕ} {ns : List (List ℕ)} {o : Outcome} → ContentSpec t n d b j w ns → While white t i b → Closed t j → Opens t i o → Agrees n d 16 0 o j w ns
+open-agrees : (t : List ℕ) (n d : ℕ) {b i j : ℕ} {w : List ℕ} {ns : List (List ℕ)} {o : Outcome} →
+    ContentSpec t n d b j w ns → While white t i b → Closed t j → Opens t i o → Agrees n d 16 0 o j w ns
 open-agrees t n d (empty e) a cl r = open-empty t n d e a cl r
 open-agrees t n d (mixed m) a cl r = mixed-agrees t n d m a cl r
 open-agrees t n d (children-choice q mk) a cl r = open-children t n d (head-choice q) (complete q) mk a cl r
 open-agrees t n d (children-seq q mk) a cl r = open-children t n d (head-seq q) (complete q) mk a cl r
 
+-- the outcome for a whole text agrees with a model of it
 abbrev pub Final : ℕ → ℕ → Outcome → List ℕ → List (List ℕ) → Type 0
 Final n d (good j w′ ns′) w ns = (w′ ≡ w) × (ns′ ≡ ns)
 Final n d (bad f k) w ns = Past n d 16 (length ns) f
 
-pub whole-agrees : (t : List ℕ) {n d : ℕ} {w : List ℕ} {ns : List (List ℕ)} {o : Outcome} → Model t n d w ns → Whole t o → Final n d o w ns
+pub whole-agrees : (t : List ℕ) {n d : ℕ} {w : List ℕ} {ns : List (List ℕ)} {o : Outcome} → Model t n d w ns → Whole t o →
+    Final n d o w ns
 whole-agrees t {n} {d} {w} {ns} m (w-good r u e) = let h = open-agrees t n d (m .spec) (m .before) (after-white t (m .after) (at-end t)) r in (h .1, h .2)
 whole-agrees t {n} {d} {w} {ns} m (w-bad {f = f} r) = past-more n d 16 (0 + length ns) (length ns) f (omega arith) (open-agrees t n d (m .spec) (m .before) (after-white t (m .after) (at-end t)) r)
 whole-agrees t {n} {d} {w} {ns} m (w-left {l = l} r u x) =

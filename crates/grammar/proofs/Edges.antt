@@ -3,7 +3,7 @@ use mathlib.Core.Path.{_≡_, refl, sym, ap, subst, _∙_}
 use mathlib.Core.Bool.{true, false}
 use mathlib.Core.List.{List}
 use mathlib.Core.Logic.{_⊎_, inl, inr, ⊎-elim}
-use Prim.Native.Nat.{ℕ, _+_, _-_, _<_}
+use Prim.Native.Nat.{ℕ, _+_, _<_}
 use native.Mathlib.Omega.{arith}
 use lib.Chars.{codes}
 use lib.ListN.{length, getD, drop}
@@ -85,11 +85,13 @@ marks-outside t unmarked c = c .no-inner
 marks-outside t (with-mark h) c = mark-outside h
 
 -- the first sign behind a part
-pub head-rest : (t : List ℕ) {n d k j : ℕ} {g : Chain} {v : List ℕ} {ms : List (List ℕ)} → Is t n (rest g) d k j v ms → (l : ℕ) × While white t k l × ((getD t l 0 ≡ 41) ⊎ (getD t l 0 ≡ sign g))
+pub head-rest : (t : List ℕ) {n d k j : ℕ} {g : Chain} {v : List ℕ} {ms : List (List ℕ)} → Is t n (rest g) d k j v ms →
+    (l : ℕ) × While white t k l × ((getD t l 0 ≡ 41) ⊎ (getD t l 0 ≡ sign g))
 head-rest t (rest-done {l = l} r e) = (l, r, inl e)
 head-rest t (rest-next {l = l} r e _ _ _) = (l, r, inr e)
 
-pub after-cp : (t : List ℕ) {n d k j : ℕ} (g : Chain) {v : List ℕ} {ms : List (List ℕ)} → Is t n (rest g) d k j v ms → Closed t k
+pub after-cp : (t : List ℕ) {n d k j : ℕ} (g : Chain) {v : List ℕ} {ms : List (List ℕ)} → Is t n (rest g) d k j v ms →
+    Closed t k
 after-cp t g r = let h = head-rest t r in after-white t (h .1) (⊎-elim (λ e. close-closed t (h .0) e) (λ e. sign-closed t (h .0) g e) (h .2))
 
 -- where a group opens, and its first part
@@ -102,11 +104,13 @@ pub record Head (t : List ℕ) (d i : ℕ) : Type 0 where
   pub black : white (getD t begin 0) ≡ false
   pub part : (tok t begin ≡ word) ⊎ (tok t begin ≡ opens)
 
+-- a particle begins at b
 pub record Begins (t : List ℕ) (b : ℕ) : Type 0 where
   pub black : white (getD t b 0) ≡ false
   pub part : (tok t b ≡ word) ⊎ (tok t b ≡ opens)
 
-pub bracket-choice : {t : List ℕ} {n d i j : ℕ} {w : List ℕ} {ns : List (List ℕ)} → Is t n choice d i j w ns → getD t i 0 ≡ 40
+pub bracket-choice : {t : List ℕ} {n d i j : ℕ} {w : List ℕ} {ns : List (List ℕ)} → Is t n choice d i j w ns →
+    getD t i 0 ≡ 40
 bracket-choice (is-choice br _ _ _ _ _ _) = br
 
 pub bracket-seq : {t : List ℕ} {n d i j : ℕ} {w : List ℕ} {ns : List (List ℕ)} → Is t n seq d i j w ns → getD t i 0 ≡ 40
@@ -123,12 +127,14 @@ head-choice (is-choice {e = x} {b = b} br de a p u e q) = let h = head-cp p in r
 pub head-seq : {t : List ℕ} {n d i j : ℕ} {w : List ℕ} {ns : List (List ℕ)} → Is t n seq d i j w ns → Head t d i
 head-seq (is-seq {e = x} {b = b} br de a p q) = let h = head-cp p in record { level = x; down = de; bracket = br; begin = b; before = a; black = h .black; part = h .part }
 
-pub listed-outside : (t : List ℕ) {n k j : ℕ} {v : List ℕ} {ms : List (List ℕ)} → Listed t n k j v ms → inner (getD t k 0) ≡ false
+pub listed-outside : (t : List ℕ) {n k j : ℕ} {v : List ℕ} {ms : List (List ℕ)} → Listed t n k j v ms →
+    inner (getD t k 0) ≡ false
 listed-outside t (listed-done {l = l} a e) = after-white t a (close-closed t l e) .no-inner
 listed-outside t (listed-next {l = l} a e _ _ _) = after-white t a (sign-closed t l Choice e) .no-inner
 
 -- EMPTY
-pub letter : (t : List ℕ) (b m i : ℕ) → slice t b (b + 5) ≡ codes "EMPTY" → m < 5 → i ≡ b + m → getD t i 0 ≡ getD (codes "EMPTY") m 0
+pub letter : (t : List ℕ) (b m i : ℕ) → slice t b (b + 5) ≡ codes "EMPTY" → m < 5 → i ≡ b + m →
+    getD t i 0 ≡ getD (codes "EMPTY") m 0
 letter t b m i e h z =
     ap (λ (x : ℕ). getD t x 0) z ∙ sym (getD-take 5 (drop b t) m 0 h ∙ getD-drop b t m 0) ∙ ap (λ (l : List ℕ). getD l m 0) (sym (slice-at t b 5) ∙ e)
 

@@ -72,12 +72,14 @@ is-on (rest-done a e) = omega (arith, while-le a)
 is-on (rest-next a e u p q) = omega (arith, while-le a, while-le u, is-on p, is-on q)
 
 -- the bar of a choice stands before its end
-choice-in : {t : List ℕ} {n d k l j : ℕ} {v : List ℕ} {ms : List (List ℕ)} → Is t n (rest Choice) d k j v ms → While white t k l → getD t l 0 ≡ 124 → l < j
+choice-in : {t : List ℕ} {n d k l j : ℕ} {v : List ℕ} {ms : List (List ℕ)} → Is t n (rest Choice) d k j v ms →
+    While white t k l → getD t l 0 ≡ 124 → l < j
 choice-in (rest-done {l = y} a e) u h = let z : y ≡ _ = same-run u a (ap white h) (ap white e) in omega arith
 choice-in (rest-next {l = y} a e x p q) u h = let z : y ≡ _ = same-run u a (ap white h) (ap white e) in omega (arith, while-le x, is-on p, is-on q)
 
 -- what is read in one text is read in the other
-is-move : {t t′ : List ℕ} {n k : ℕ} {s : Sym} {d i j : ℕ} {w : List ℕ} {ns : List (List ℕ)} → Front t t′ k → Is t n s d i j w ns → j ≤ k → Is t′ n s d i j w ns
+is-move : {t t′ : List ℕ} {n k : ℕ} {s : Sym} {d i j : ℕ} {w : List ℕ} {ns : List (List ℕ)} → Front t t′ k →
+    Is t n s d i j w ns → j ≤ k → Is t′ n s d i j w ns
 is-move {t} {t′} {n} {k} {s} {d} f (cp-name {i = i} {k = q} {j = j} {m = m} nm mk) h =
     let l : q ≤ k = omega (arith, marks-le mk) in
     let o : i ≤ q = omega (arith, name-le nm) in
@@ -111,6 +113,7 @@ at-here t u v k b h =
 at-first : (t v : List ℕ) (k b : ℕ) → k ≤ length t → getD (take k t ++ (b ∷ v)) k 0 ≡ b
 at-first t v k b h = getD-at (take k t) b v 0 k (length-take-le k t h)
 
+-- what each part is by the productions, from i up to j
 abbrev pub Done : List ℕ → Part → ℕ → ℕ → ℕ → Type 0
 Done t particle e i j = (b : ℕ) × (w : List ℕ) × (ns : List (List ℕ)) × While white t i b × Is t 32 cp e b j w ns
 Done t body e i j = (x : ℕ) → i ≡ x + 1 → getD t x 0 ≡ 40 → (w : List ℕ) × (ns : List (List ℕ)) × (Is t 32 choice (e + 1) x j w ns ⊎ Is t 32 seq (e + 1) x j w ns)
@@ -125,6 +128,7 @@ pub record Ends (t : List ℕ) (s : Part) (e i k : ℕ) : Type 0 where
   pub inside : k ≤ length t
   pub done : (v : List ℕ) → Done (take k t ++ (word′ ++ v)) s e i (k + length word′)
 
+-- what is read stands inside the text and goes on; what is refused could have ended with another token there
 abbrev pub Viable : List ℕ → Part → ℕ → ℕ → Outcome → Type 0
 Viable t s e i (good j w ns) = i ≤ length t → (i < j) × (j ≤ length t)
 Viable t s e i (bad f k) = i ≤ length t → Ends t s e i k
@@ -190,17 +194,21 @@ longer k u b = omega (arith, length-append u (b ∷ []))
 more-text : (t u v : List ℕ) (k b : ℕ) → take k t ++ (u ++ (b ∷ v)) ≡ take k t ++ ((u ++ (b ∷ [])) ++ v)
 more-text t u v k b = ap (λ (l : List ℕ). take k t ++ l) (sym (append-assoc u (b ∷ []) v))
 
-grouped : (t : List ℕ) (e x i b j : ℕ) (w : List ℕ) (ns : List (List ℕ)) → While white t i b → e ≡ x + 1 → Is t 32 choice (x + 1) b j w ns ⊎ Is t 32 seq (x + 1) b j w ns → Done t particle e i j
+grouped : (t : List ℕ) (e x i b j : ℕ) (w : List ℕ) (ns : List (List ℕ)) → While white t i b → e ≡ x + 1 →
+    Is t 32 choice (x + 1) b j w ns ⊎ Is t 32 seq (x + 1) b j w ns → Done t particle e i j
 grouped t e x i b j w ns a ex (inl r) = (b, w ++ [], ns, a, cp-choice (subst (λ (y : ℕ). Is t 32 choice y b j w ns) (sym ex) r) unmarked)
 grouped t e x i b j w ns a ex (inr r) = (b, w ++ [], ns, a, cp-seq (subst (λ (y : ℕ). Is t 32 seq y b j w ns) (sym ex) r) unmarked)
 
 -- a first part and a rest: a choice, or a sequence
-joined-body : (t : List ℕ) (e x b k j : ℕ) (w v : List ℕ) (ns ms : List (List ℕ)) (g : Chain) → getD t x 0 ≡ 40 → While white t (x + 1) b → Is t 32 cp e b k w ns → Is t 32 (rest g) e k j v ms → (w′ : List ℕ) × (ns′ : List (List ℕ)) × (Is t 32 choice (e + 1) x j w′ ns′ ⊎ Is t 32 seq (e + 1) x j w′ ns′)
+joined-body : (t : List ℕ) (e x b k j : ℕ) (w v : List ℕ) (ns ms : List (List ℕ)) (g : Chain) → getD t x 0 ≡ 40 →
+    While white t (x + 1) b → Is t 32 cp e b k w ns → Is t 32 (rest g) e k j v ms →
+    (w′ : List ℕ) × (ns′ : List (List ℕ)) × (Is t 32 choice (e + 1) x j w′ ns′ ⊎ Is t 32 seq (e + 1) x j w′ ns′)
 joined-body t e x b k j w v ns ms Seq br a p q = (w ++ v, ns ++ ms, inr (is-seq br refl a p q))
 joined-body t e x b k j w v ns ms Choice br a p (rest-done u h) = (w ++ [], ns ++ [], inr (is-seq br refl a p (rest-done u h)))
 joined-body t e x b k j w v ns ms Choice br a p (rest-next {w = y} {v = z} {ns = c} {ms = d} u h o r q) = (w ++ ((y ++ (3 ∷ [])) ++ z), ns ++ (c ++ d), inl (is-choice br refl a p u h (rest-next u h o r q)))
 
-group-ends : (t : List ℕ) (e x i b k : ℕ) → Longest white t i b → tok t b ≡ opens → e ≡ x + 1 → Ends t body x (b + 1) k → Ends t particle e i k
+group-ends : (t : List ℕ) (e x i b k : ℕ) → Longest white t i b → tok t b ≡ opens → e ≡ x + 1 → Ends t body x (b + 1) k →
+    Ends t particle e i k
 group-ends t e x i b k a s ex r =
     let l = while-le (a .run) in
     let o = r .on′ in
@@ -229,7 +237,8 @@ body-first t e i k r =
           joined-body (take k t ++ (u ++ (41 ∷ v))) e x (d .0) (k + length u) (k + length u + 1) (d .1) [] (d .2) [] Seq br (subst (λ (y : ℕ). While white (take k t ++ (u ++ (41 ∷ v))) y (d .0)) ix (d .3)) (d .4) (rest-done stop (at-here t u v k 41 (r .inside)))));
     }
 
-body-rest : (t : List ℕ) (e i k q : ℕ) (w : List ℕ) (ns : List (List ℕ)) (g : Chain) → Stands t particle e i (good q w ns) → i < q → Ends t (onward g) e q k → Ends t body e i k
+body-rest : (t : List ℕ) (e i k q : ℕ) (w : List ℕ) (ns : List (List ℕ)) (g : Chain) →
+    Stands t particle e i (good q w ns) → i < q → Ends t (onward g) e q k → Ends t body e i k
 body-rest t e i k q w ns g p h r =
     let o = r .on′ in
     record {
@@ -244,7 +253,8 @@ body-rest t e i k q w ns g p h r =
           λ x ix br. joined-body t′ e x (p .0) q (k + length (r .word′)) w (d .0) ns (d .1) g br (subst (λ (y : ℕ). While white t′ y (p .0)) ix (while-move f (p .1) l)) (is-move f (p .2) o) (d .2);
     }
 
-rest-part : (t : List ℕ) (g : Chain) (e i l k : ℕ) → Longest white t i l → getD t l 0 ≡ sign g → Ends t particle e (l + 1) k → Ends t (onward g) e i k
+rest-part : (t : List ℕ) (g : Chain) (e i l k : ℕ) → Longest white t i l → getD t l 0 ≡ sign g →
+    Ends t particle e (l + 1) k → Ends t (onward g) e i k
 rest-part t g e i l k a s r =
     let u = r .word′ in
     let o = r .on′ in
@@ -261,7 +271,9 @@ rest-part t g e i l k a s r =
           ((d .1 ++ (code g ∷ [])) ++ [], d .2 ++ [], rest-next (while-move f (a .run) (omega arith)) (f .same l (omega arith) ∙ s) (d .3) (d .4) (rest-done stop (at-here t u v k 41 (r .inside)))));
     }
 
-rest-rest : (t : List ℕ) (g : Chain) (e i l k q : ℕ) (w : List ℕ) (ns : List (List ℕ)) → Longest white t i l → getD t l 0 ≡ sign g → Stands t particle e (l + 1) (good q w ns) → l + 1 < q → Ends t (onward g) e q k → Ends t (onward g) e i k
+rest-rest : (t : List ℕ) (g : Chain) (e i l k q : ℕ) (w : List ℕ) (ns : List (List ℕ)) → Longest white t i l →
+    getD t l 0 ≡ sign g → Stands t particle e (l + 1) (good q w ns) → l + 1 < q → Ends t (onward g) e q k →
+    Ends t (onward g) e i k
 rest-rest t g e i l k q w ns a s p h r =
     let o = r .on′ in
     let y = while-le (a .run) in
@@ -276,7 +288,8 @@ rest-rest t g e i l k q w ns a s p h r =
           ((w ++ (code g ∷ [])) ++ d .0, ns ++ d .1, rest-next (while-move f (a .run) (omega arith)) (f .same l (omega arith) ∙ s) (while-move f (p .1) c) (is-move f (p .2) o) (d .2));
     }
 
-list-name : (t : List ℕ) (e i l k : ℕ) → Longest white t i l → getD t l 0 ≡ 124 → Ends t named e (l + 1) k → Ends t listed e i k
+list-name : (t : List ℕ) (e i l k : ℕ) → Longest white t i l → getD t l 0 ≡ 124 → Ends t named e (l + 1) k →
+    Ends t listed e i k
 list-name t e i l k a s r =
     let u = r .word′ in
     let o = r .on′ in
@@ -293,7 +306,8 @@ list-name t e i l k a s r =
           (1 ∷ (3 ∷ []), slice (take k t ++ (u ++ (41 ∷ v))) (d .0) (k + length u) ∷ [], listed-next (while-move f (a .run) (omega arith)) (f .same l (omega arith) ∙ s) (d .1) (d .2) (listed-done stop (at-here t u v k 41 (r .inside)))));
     }
 
-list-rest : (t : List ℕ) (e i l k q : ℕ) (w : List ℕ) (ns : List (List ℕ)) → Longest white t i l → getD t l 0 ≡ 124 → Stands t named e (l + 1) (good q w ns) → l + 1 < q → Ends t listed e q k → Ends t listed e i k
+list-rest : (t : List ℕ) (e i l k q : ℕ) (w : List ℕ) (ns : List (List ℕ)) → Longest white t i l → getD t l 0 ≡ 124 →
+    Stands t named e (l + 1) (good q w ns) → l + 1 < q → Ends t listed e q k → Ends t listed e i k
 list-rest t e i l k q w ns a s p h r =
     let o = r .on′ in
     let y = while-le (a .run) in
@@ -308,15 +322,22 @@ list-rest t e i l k q w ns a s p h r =
           (1 ∷ (3 ∷ d .0), slice (take k t ++ (r .word′ ++ v)) (p .0) q ∷ d .1, listed-next (while-move f (a .run) (omega arith)) (f .same l (omega arith) ∙ s) (while-move f (p .1) c) (name-move f (p .2) o) (d .2));
     }
 
-body-after : (t : List ℕ) (e i q : ℕ) (w : List ℕ) (ns : List (List ℕ)) (g : Chain) (o : Outcome) → Stands t particle e i (good q w ns) → Viable t particle e i (good q w ns) → Viable t (onward g) e q o → Viable t body e i (after w ns o)
+body-after : (t : List ℕ) (e i q : ℕ) (w : List ℕ) (ns : List (List ℕ)) (g : Chain) (o : Outcome) →
+    Stands t particle e i (good q w ns) → Viable t particle e i (good q w ns) → Viable t (onward g) e q o →
+    Viable t body e i (after w ns o)
 body-after t e i q w ns g (good j v ms) p a r = λ h. let x = a h in let y = r (x .1) in (omega (arith, x .0, y .0), y .1)
 body-after t e i q w ns g (bad f k) p a r = λ h. let x = a h in body-rest t e i k q w ns g p (x .0) (r (x .1))
 
-rest-after : (t : List ℕ) (g : Chain) (e i l q : ℕ) (w : List ℕ) (ns : List (List ℕ)) (o : Outcome) → Longest white t i l → getD t l 0 ≡ sign g → l < length t → Stands t particle e (l + 1) (good q w ns) → Viable t particle e (l + 1) (good q w ns) → Viable t (onward g) e q o → Viable t (onward g) e i (after (w ++ (code g ∷ [])) ns o)
+rest-after : (t : List ℕ) (g : Chain) (e i l q : ℕ) (w : List ℕ) (ns : List (List ℕ)) (o : Outcome) →
+    Longest white t i l → getD t l 0 ≡ sign g → l < length t → Stands t particle e (l + 1) (good q w ns) →
+    Viable t particle e (l + 1) (good q w ns) → Viable t (onward g) e q o →
+    Viable t (onward g) e i (after (w ++ (code g ∷ [])) ns o)
 rest-after t g e i l q w ns (good j v ms) b s n p a r = λ h. let x = a (omega arith) in let y = r (x .1) in (omega (arith, x .0, y .0, while-le (b .run)), y .1)
 rest-after t g e i l q w ns (bad f k) b s n p a r = λ h. let x = a (omega arith) in rest-rest t g e i l k q w ns b s p (x .0) (r (x .1))
 
-list-after : (t : List ℕ) (e i l q : ℕ) (w : List ℕ) (ns : List (List ℕ)) (o : Outcome) → Longest white t i l → getD t l 0 ≡ 124 → l < length t → Stands t named e (l + 1) (good q w ns) → Viable t named e (l + 1) (good q w ns) → Viable t listed e q o → Viable t listed e i (after (w ++ (3 ∷ [])) ns o)
+list-after : (t : List ℕ) (e i l q : ℕ) (w : List ℕ) (ns : List (List ℕ)) (o : Outcome) → Longest white t i l →
+    getD t l 0 ≡ 124 → l < length t → Stands t named e (l + 1) (good q w ns) → Viable t named e (l + 1) (good q w ns) →
+    Viable t listed e q o → Viable t listed e i (after (w ++ (3 ∷ [])) ns o)
 list-after t e i l q w ns (good j v ms) b s n p a r = λ h. let x = a (omega arith) in let y = r (x .1) in (omega (arith, x .0, y .0, while-le (b .run)), y .1)
 list-after t e i l q w ns (bad f k) b s n p a r = λ h. let x = a (omega arith) in list-rest t e i l k q w ns b s p (x .0) (r (x .1))
 
@@ -330,7 +351,8 @@ close-in t i l a s = (omega (arith, while-le (a .run)), omega (arith, byte-insid
 pub bar-in : (t : List ℕ) (l : ℕ) → tok t l ≡ bar → l < length t
 bar-in t l s = byte-inside t l 124 (tok-says t l bar s) (omega arith)
 
-pub name-in : (t : List ℕ) (i b k : ℕ) → Longest white t i b → tok t b ≡ word → Longest inner t (b + 1) k → (i < k) × (k ≤ length t)
+pub name-in : (t : List ℕ) (i b k : ℕ) → Longest white t i b → tok t b ≡ word → Longest inner t (b + 1) k →
+    (i < k) × (k ≤ length t)
 name-in t i b k a s r = (omega (arith, while-le (a .run), while-le (r .run)), run-inside inner t refl (r .run) (omega (arith, word-in t b s)))
 
 pub viable : {t : List ℕ} {s : Part} {e i c : ℕ} {o : Outcome} → Reads t s e i c o → Viable t s e i o
@@ -365,7 +387,8 @@ listed-on : {t : List ℕ} {n i j : ℕ} {v : List ℕ} {ms : List (List ℕ)} �
 listed-on (listed-done a e) = omega (arith, while-le a)
 listed-on (listed-next a e u nm q) = omega (arith, while-le a, while-le u, name-le nm, listed-on q)
 
-listed-move : {t t′ : List ℕ} {n k i j : ℕ} {v : List ℕ} {ms : List (List ℕ)} → Front t t′ k → Listed t n i j v ms → j ≤ k → Listed t′ n i j v ms
+listed-move : {t t′ : List ℕ} {n k i j : ℕ} {v : List ℕ} {ms : List (List ℕ)} → Front t t′ k → Listed t n i j v ms →
+    j ≤ k → Listed t′ n i j v ms
 listed-move f (listed-done {l = l} a e) h = listed-done (while-move f a (omega arith)) (f .same l (omega arith) ∙ e)
 listed-move {t} {t′} {n} {k} {i} {j} f (listed-next {l = l} {b = b} {k = q} {v = v} {ms = ms} a e u nm r) h =
     let x = name-le nm in
@@ -375,7 +398,8 @@ listed-move {t} {t′} {n} {k} {i} {j} f (listed-next {l = l} {b = b} {k = q} {v
     let c : q ≤ k = omega arith in
     subst (λ (d : List ℕ). Listed t′ n i j (1 ∷ (3 ∷ v)) (d ∷ ms)) (f .piece b q o c) (listed-next (while-move f a (omega arith)) (f .same l (omega arith) ∙ e) (while-move f u (omega arith)) (name-move f nm c) (listed-move f r h))
 
-mixed-move : {t t′ : List ℕ} {n k i j : ℕ} {w : List ℕ} {ns : List (List ℕ)} → Front t t′ k → Mixed t n i j w ns → j ≤ k → Mixed t′ n i j w ns
+mixed-move : {t t′ : List ℕ} {n k i j : ℕ} {w : List ℕ} {ns : List (List ℕ)} → Front t t′ k → Mixed t n i j w ns → j ≤ k →
+    Mixed t′ n i j w ns
 mixed-move f (text-alone {i = i} {b = b} {l = l} br u p z e) h =
     let x = while-le u in
     let y = while-le z in
@@ -395,7 +419,8 @@ mixed-move {t} {t′} {n} {k} f (text-names {i = i} {b = b} {l = l} {x = x} {k =
     subst (λ (d : List ℕ). Mixed t′ n i (j + 1) ((1 ∷ v) ++ (5 ∷ [])) (d ∷ ms)) (f .piece x q o c)
     (text-names (f .same i (omega arith) ∙ br) (while-move f u (omega arith)) (f .piece b (b + 7) (omega arith) (omega arith) ∙ p) (while-move f z (omega arith)) (f .same l (omega arith) ∙ e) (while-move f y (omega arith)) (name-move f nm c) (listed-move f r (omega arith)) (f .same j (omega arith) ∙ s))
 
-spec-move : {t t′ : List ℕ} {n d k i j : ℕ} {w : List ℕ} {ns : List (List ℕ)} → Front t t′ k → ContentSpec t n d i j w ns → j ≤ k → ContentSpec t′ n d i j w ns
+spec-move : {t t′ : List ℕ} {n d k i j : ℕ} {w : List ℕ} {ns : List (List ℕ)} → Front t t′ k →
+    ContentSpec t n d i j w ns → j ≤ k → ContentSpec t′ n d i j w ns
 spec-move f (empty {i = i} e) h = empty (f .piece i (i + 5) (omega arith) h ∙ e)
 spec-move f (mixed m) h = mixed (mixed-move f m h)
 spec-move f (children-choice r m) h = children-choice (is-move f r (omega (arith, marks-le m))) (marks-move f m h)
@@ -408,7 +433,9 @@ pub record MixEnds (t : List ℕ) (i k : ℕ) : Type 0 where
   pub on′ : i ≤ cut
   pub inside : cut ≤ length t
   pub word′ : List ℕ
-  pub done : (x b : ℕ) → getD (take cut t ++ word′) b 0 ≡ 40 → While white (take cut t ++ word′) (b + 1) x → slice (take cut t ++ word′) x (x + 7) ≡ codes "#PCDATA" → i ≡ x + 7 → (w : List ℕ) × (ns : List (List ℕ)) × Mixed (take cut t ++ word′) 32 b (cut + length word′) w ns
+  pub done : (x b : ℕ) → getD (take cut t ++ word′) b 0 ≡ 40 → While white (take cut t ++ word′) (b + 1) x →
+      slice (take cut t ++ word′) x (x + 7) ≡ codes "#PCDATA" → i ≡ x + 7 →
+      (w : List ℕ) × (ns : List (List ℕ)) × Mixed (take cut t ++ word′) 32 b (cut + length word′) w ns
 
 from-here : (t : List ℕ) {i l : ℕ} (y : ℕ) → i ≡ y → While white t i l → While white t y l
 from-here t {i} {l} y e r = subst (λ (x : ℕ). While white t x l) e r
@@ -445,7 +472,8 @@ mix-name t i l k a s r =
       done = λ x b br v p e. ((1 ∷ []) ++ (5 ∷ []), slice t′ (d .0) (k + length u) ∷ [], subst (λ (j : ℕ). Mixed t′ 32 b j ((1 ∷ []) ++ (5 ∷ [])) (slice t′ (d .0) (k + length u) ∷ [])) far (text-names br v p (from-here t′ (x + 7) e (while-move f (a .run) (omega arith))) (f .same l (omega arith) ∙ tok-says t l bar s) (d .1) (d .2) (listed-done stop (at-here t u (42 ∷ []) k 41 (r .inside))) next));
     }
 
-mix-list : (t : List ℕ) (i l k q : ℕ) (w : List ℕ) (ns : List (List ℕ)) → Longest white t i l → tok t l ≡ bar → Stands t named 15 (l + 1) (good q w ns) → l + 1 < q → Ends t listed 15 q k → MixEnds t i k
+mix-list : (t : List ℕ) (i l k q : ℕ) (w : List ℕ) (ns : List (List ℕ)) → Longest white t i l → tok t l ≡ bar →
+    Stands t named 15 (l + 1) (good q w ns) → l + 1 < q → Ends t listed 15 q k → MixEnds t i k
 mix-list t i l k q w ns a s p g r =
     let u = r .word′ in
     let z = u ++ (42 ∷ []) in
@@ -464,7 +492,9 @@ mix-list t i l k q w ns a s p g r =
       done = λ x b br v h e. ((1 ∷ d .0) ++ (5 ∷ []), slice t′ (p .0) q ∷ d .1, subst (λ (j : ℕ). Mixed t′ 32 b j ((1 ∷ d .0) ++ (5 ∷ [])) (slice t′ (p .0) q ∷ d .1)) (longer k u 42) (text-names br v h (from-here t′ (x + 7) e (while-move f (a .run) (omega arith))) (f .same l (omega arith) ∙ tok-says t l bar s) (while-move f (p .1) c) (name-move f (p .2) o) (d .2) (at-here t u [] k 42 (r .inside))));
     }
 
-mix-star-here : (t : List ℕ) (i l k j q : ℕ) (w v : List ℕ) (ns ms : List (List ℕ)) → Longest white t i l → tok t l ≡ bar → Stands t named 15 (l + 1) (good q w ns) → l + 1 < q → Listed t 32 q j v ms → j ≤ length t → While white t j k → MixEnds t i k
+mix-star-here : (t : List ℕ) (i l k j q : ℕ) (w v : List ℕ) (ns ms : List (List ℕ)) → Longest white t i l →
+    tok t l ≡ bar → Stands t named 15 (l + 1) (good q w ns) → l + 1 < q → Listed t 32 q j v ms → j ≤ length t →
+    While white t j k → MixEnds t i k
 mix-star-here t i l k j q w v ns ms a s p g r h blank′ =
     let y = while-le (a .run) in
     let o = listed-on r in
@@ -527,7 +557,8 @@ pcdata-in t l s =
     let seven : length (take 7 (drop l t)) ≡ 7 = ap length (sym (slice-at t l 7) ∙ pcdata-slice t l s) in
     ⊎-elim (λ h. absurd (let z : length (take 7 (drop l t)) ≡ length (drop l t) = ap length (take-all 7 (drop l t) (omega (arith, length-drop l t))) in omega (arith, length-drop l t))) (λ h. h) (order (length t) (l + 7))
 
-mixed-here : (t : List ℕ) (b l k : ℕ) → Longest white t 0 b → tok t b ≡ opens → Longest white t (b + 1) l → tok t l ≡ pcdata → MixEnds t (l + 7) k → OpenEnds t k
+mixed-here : (t : List ℕ) (b l k : ℕ) → Longest white t 0 b → tok t b ≡ opens → Longest white t (b + 1) l →
+    tok t l ≡ pcdata → MixEnds t (l + 7) k → OpenEnds t k
 mixed-here t b l k a s u p r =
     let o = r .on′ in
     let f = front-of t (r .word′) (r .cut) (r .inside) in
@@ -547,7 +578,8 @@ mixed-here t b l k a s u p r =
       inside = r .inside;
     }
 
-children-of : (t : List ℕ) (b j : ℕ) (w : List ℕ) (ns : List (List ℕ)) → Is t 32 choice (15 + 1) b j w ns ⊎ Is t 32 seq (15 + 1) b j w ns → ContentSpec t 32 16 b j (w ++ []) ns
+children-of : (t : List ℕ) (b j : ℕ) (w : List ℕ) (ns : List (List ℕ)) →
+    Is t 32 choice (15 + 1) b j w ns ⊎ Is t 32 seq (15 + 1) b j w ns → ContentSpec t 32 16 b j (w ++ []) ns
 children-of t b j w ns (inl r) = children-choice r unmarked
 children-of t b j w ns (inr r) = children-seq r unmarked
 
@@ -599,7 +631,8 @@ spec-le (mixed m) = mixed-le m
 spec-le (children-choice r m) = omega (arith, is-on r, marks-le m)
 spec-le (children-seq r m) = omega (arith, is-on r, marks-le m)
 
-left-here : (t : List ℕ) (j l : ℕ) (w : List ℕ) (ns : List (List ℕ)) → Spec t 0 (good j w ns) → j ≤ length t → Longest white t j l → Begun t l
+left-here : (t : List ℕ) (j l : ℕ) (w : List ℕ) (ns : List (List ℕ)) → Spec t 0 (good j w ns) → j ≤ length t →
+    Longest white t j l → Begun t l
 left-here t j l w ns x h u =
     let inside : l ≤ length t = run-inside white t refl (u .run) h in
     let f = front-of t [] l inside in

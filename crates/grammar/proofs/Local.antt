@@ -35,7 +35,8 @@ not-bar stray f = refl
 not-bar strange f = refl
 not-bar end f = refl
 
-slice-same : (t t′ : List ℕ) (i j : ℕ) → i ≤ j → j ≤ length t → j ≤ length t′ → ((m : ℕ) → m < j → getD t′ m 0 ≡ getD t m 0) → slice t′ i j ≡ slice t i j
+slice-same : (t t′ : List ℕ) (i j : ℕ) → i ≤ j → j ≤ length t → j ≤ length t′ →
+    ((m : ℕ) → m < j → getD t′ m 0 ≡ getD t m 0) → slice t′ i j ≡ slice t i j
 slice-same t t′ i j a b c f =
     let l : length (slice t i j) ≡ j - i = length-take-le (j - i) (drop i t) (omega (arith, length-drop i t)) in
     let l′ : length (slice t′ i j) ≡ j - i = length-take-le (j - i) (drop i t′) (omega (arith, length-drop i t′)) in
@@ -90,12 +91,14 @@ module _ (t t′ : List ℕ) (k : ℕ) (a : Alike t t′ k) (fr : Front t t′ k
   mark-on (none f) = omega arith
   mark-on (one x) = omega arith
 
+  -- what is read or refused in the one text, up to k, is in the other
   abbrev Moves : Part → ℕ → ℕ → ℕ → Outcome → Type 0
   Moves s e i c (good j w ns) = i ≤ length t → j ≤ k → Reads t′ s e i c (good j w ns)
   Moves s e i c (bad f y) = i ≤ length t → y ≡ k → Reads t′ s e i c (bad f y)
 
   -- a token that can't follow, there too
-  refused′ : {s : Part} {e i c : ℕ} (b : ℕ) → b ≡ k → Reads t′ s e i c (bad (cannot (tok t′ b)) b) → Reads t′ s e i c (bad (cannot (tok t b)) b)
+  refused′ : {s : Part} {e i c : ℕ} (b : ℕ) → b ≡ k → Reads t′ s e i c (bad (cannot (tok t′ b)) b) →
+      Reads t′ s e i c (bad (cannot (tok t b)) b)
   refused′ {s} {e} {i} {c} b h r = subst (λ (x : Tok). Reads t′ s e i c (bad (cannot x) b)) (there b h) r
 
   -- the next token stands before the end
@@ -103,7 +106,8 @@ module _ (t t′ : List ℕ) (k : ℕ) (a : Alike t t′ k) (fr : Front t t′ k
   Later l (good j w ns) = l < j
   Later l (bad f y) = l ≤ y
 
-  later-after : (l q : ℕ) (w : List ℕ) (ns : List (List ℕ)) (s : Part) (e : ℕ) (o : Outcome) → l < q → q ≤ length t → Viable t s e q o → Later l (after w ns o)
+  later-after : (l q : ℕ) (w : List ℕ) (ns : List (List ℕ)) (s : Part) (e : ℕ) (o : Outcome) → l < q → q ≤ length t →
+      Viable t s e q o → Later l (after w ns o)
   later-after l q w ns s e (good j v ms) h n r = let x = r n in omega (arith, x .0)
   later-after l q w ns s e (bad f y) h n r = let x = r n in omega (arith, x .on′)
 
@@ -113,15 +117,23 @@ module _ (t t′ : List ℕ) (k : ℕ) (a : Alike t t′ k) (fr : Front t t′ k
   onward-later {e = e} {l = l} u (o-next {g = g} {l = x} {k = q} {w = w} {ns = ns} {o = o} b s r h v) = let z = one-end u b in let y = viable r (omega (arith, sign-byte t x g s .1)) in later-after l q (w ++ (code g ∷ [])) ns (onward g) e o (omega (arith, y .0)) (y .1) (viable v)
   onward-later {l = l} u (o-none b x y) = let z = one-end u b in omega arith
 
-  body-moves : (e i c q l x : ℕ) (w : List ℕ) (ns : List (List ℕ)) (g : Chain) (o : Outcome) → Moves particle e i c (good q w ns) → Viable t particle e i (good q w ns) → Longest white t q l → g ≡ chainOf (tok t l) → x ≡ c + length ns → Later l o → Viable t (onward g) e q o → Moves (onward g) e q x o → Moves body e i c (after w ns o)
+  body-moves : (e i c q l x : ℕ) (w : List ℕ) (ns : List (List ℕ)) (g : Chain) (o : Outcome) →
+      Moves particle e i c (good q w ns) → Viable t particle e i (good q w ns) → Longest white t q l →
+      g ≡ chainOf (tok t l) → x ≡ c + length ns → Later l o → Viable t (onward g) e q o → Moves (onward g) e q x o →
+      Moves body e i c (after w ns o)
   body-moves e i c q l x w ns g (good j v ms) p n u h z m y r = λ le jk. let d = n le in let f = y (d .1) in b-goes-on (p le (omega (arith, f .0))) (move u (omega arith)) (h ∙ chain′ l (omega arith)) z (r (d .1) jk)
   body-moves e i c q l x w ns g (bad f y) p n u h z m v r = λ le yk. let d = n le in let o = v (d .1) in b-goes-on (p le (omega (arith, o .on′))) (move u (omega arith)) (h ∙ chain′ l (omega arith)) z (r (d .1) yk)
 
-  next-moves : (g : Chain) (e i c l q x : ℕ) (w : List ℕ) (ns : List (List ℕ)) (o : Outcome) → Longest white t i l → joins g (tok t l) ≡ true → l < length t → Moves particle e (l + 1) c (good q w ns) → Viable t particle e (l + 1) (good q w ns) → x ≡ c + length ns → Viable t (onward g) e q o → Moves (onward g) e q x o → Moves (onward g) e i c (after (w ++ (code g ∷ [])) ns o)
+  next-moves : (g : Chain) (e i c l q x : ℕ) (w : List ℕ) (ns : List (List ℕ)) (o : Outcome) → Longest white t i l →
+      joins g (tok t l) ≡ true → l < length t → Moves particle e (l + 1) c (good q w ns) →
+      Viable t particle e (l + 1) (good q w ns) → x ≡ c + length ns → Viable t (onward g) e q o →
+      Moves (onward g) e q x o → Moves (onward g) e i c (after (w ++ (code g ∷ [])) ns o)
   next-moves g e i c l q x w ns (good j v ms) b s lt p n z y r = λ le jk. let d = n (omega arith) in let f = y (d .1) in o-next (move b (omega (arith, d .0, f .0))) (joins′ g l (omega (arith, d .0, f .0)) s) (p (omega arith) (omega (arith, f .0))) z (r (d .1) jk)
   next-moves g e i c l q x w ns (bad f y) b s lt p n z v r = λ le yk. let d = n (omega arith) in let o = v (d .1) in o-next (move b (omega (arith, d .0, o .on′))) (joins′ g l (omega (arith, d .0, o .on′)) s) (p (omega arith) (omega (arith, o .on′))) z (r (d .1) yk)
 
-  list-moves : (e i c l q x : ℕ) (w : List ℕ) (ns : List (List ℕ)) (o : Outcome) → Longest white t i l → tok t l ≡ bar → l < length t → Moves named e (l + 1) c (good q w ns) → Viable t named e (l + 1) (good q w ns) → x ≡ c + length ns → Viable t listed e q o → Moves listed e q x o → Moves listed e i c (after (w ++ (3 ∷ [])) ns o)
+  list-moves : (e i c l q x : ℕ) (w : List ℕ) (ns : List (List ℕ)) (o : Outcome) → Longest white t i l → tok t l ≡ bar →
+      l < length t → Moves named e (l + 1) c (good q w ns) → Viable t named e (l + 1) (good q w ns) → x ≡ c + length ns →
+      Viable t listed e q o → Moves listed e q x o → Moves listed e i c (after (w ++ (3 ∷ [])) ns o)
   list-moves e i c l q x w ns (good j v ms) b s lt p n z y r = λ le jk. let d = n (omega arith) in let f = y (d .1) in l-next (move b (omega (arith, d .0, f .0))) (bar′ l (omega (arith, d .0, f .0)) s) (p (omega arith) (omega (arith, f .0))) z (r (d .1) jk)
   list-moves e i c l q x w ns (bad f y) b s lt p n z v r = λ le yk. let d = n (omega arith) in let o = v (d .1) in l-next (move b (omega (arith, d .0, o .on′))) (bar′ l (omega (arith, d .0, o .on′)) s) (p (omega arith) (omega (arith, o .on′))) z (r (d .1) yk)
 

@@ -1,19 +1,17 @@
 -- The rules of reading give one outcome, and at most 64 names. Assumes nothing.
 use mathlib.Core.Path.{_≡_, refl, sym, ap, subst, _∙_}
-use mathlib.Core.Bool.{true, false}
+use mathlib.Core.Bool.{true}
 use mathlib.Core.List.{List, [], _∷_, _++_}
-use mathlib.Core.Logic.{⊎-elim}
-use Prim.Native.Nat.{ℕ, _+_, _≤_, _<_}
+use Prim.Native.Nat.{ℕ, _+_, _≤_}
 use native.Mathlib.Omega.{arith}
-use lib.Chars.{codes}
 use lib.ListN.{length, length-append}
 use Rattle.symbols.specs.Rule.{inner}
 use Rattle.tokens.specs.Bytes.{white}
-use Rattle.tokens.specs.Tokens.{Tok, word, pcdata, opens, closes, bar, star, end, tok, Longest, slice}
+use Rattle.tokens.specs.Tokens.{word, opens, closes, bar, tok, Longest, slice}
 use Rattle.tokens.proofs.Runs.{not-both, one-end}
 use Rattle.grammar.specs.declared.Chain.{Chain}
 use Rattle.grammar.specs.Grammar.{code}
-use Rattle.grammar.specs.Reads.{Cause, unexpected, long-name, too-deep, too-many, cannot, joins, chainOf, MarkTok, Mark, none, one, Outcome, good, bad, after, Part, particle, body, onward, named, listed, Reads, p-name, p-long, p-many, p-deep, p-group, p-group-bad, p-none, b-bad, b-goes-on, o-done, o-bad, o-next, o-none, n-name, n-long, n-many, n-none, l-done, l-bad, l-next, l-none, Mixes, x-text, x-star, x-none, x-name-bad, x-list-bad, x-names, x-no-star, Opens, c-empty, c-word, c-none, c-mixed, c-children, c-bad, Whole, w-good, w-bad, w-left}
+use Rattle.grammar.specs.Reads.{Cause, unexpected, long-name, too-deep, too-many, cannot, joins, Mark, none, one, Outcome, good, bad, after, Part, onward, Reads, p-name, p-long, p-many, p-deep, p-group, p-group-bad, p-none, b-bad, b-goes-on, o-done, o-bad, o-next, o-none, n-name, n-long, n-many, n-none, l-done, l-bad, l-next, l-none, Mixes, x-text, x-star, x-none, x-name-bad, x-list-bad, x-names, x-no-star, Opens, c-empty, c-word, c-none, c-mixed, c-children, c-bad, Whole, w-good, w-bad, w-left}
 use Rattle.grammar.proofs.Edges.{clash, one-code}
 use Rattle.grammar.proofs.Tokens.{joins-close}
 
@@ -22,7 +20,8 @@ same-tok : (t : List ℕ) {i b b′ : ℕ} → Longest white t i b → Longest w
 same-tok t a a′ = ap (tok t) (one-end a a′)
 
 -- it is not a name and a bracket
-not-open : (t : List ℕ) {i b b′ : ℕ} → Longest white t i b → tok t b ≡ word → Longest white t i b′ → tok t b′ ≡ opens → ⊥
+not-open : (t : List ℕ) {i b b′ : ℕ} → Longest white t i b → tok t b ≡ word → Longest white t i b′ → tok t b′ ≡ opens →
+    ⊥
 not-open t a s a′ s′ = clash (same-tok t a a′ ∙ s) s′
 
 -- it is not a closing bracket and a bar
@@ -30,15 +29,18 @@ not-bar : (t : List ℕ) {i b b′ : ℕ} → Longest white t i b → tok t b �
 not-bar t a s a′ s′ = let z = same-tok t a a′ in let y : _≡_ {A = ℕ} 0 1 = cc in omega arith
 
 -- it is not a closing bracket and the sign of a chain
-not-sign : (t : List ℕ) (g : Chain) {i b b′ : ℕ} → Longest white t i b → tok t b ≡ closes → Longest white t i b′ → joins g (tok t b′) ≡ true → ⊥
+not-sign : (t : List ℕ) (g : Chain) {i b b′ : ℕ} → Longest white t i b → tok t b ≡ closes → Longest white t i b′ →
+    joins g (tok t b′) ≡ true → ⊥
 not-sign t g a s a′ s′ = not-both s′ (ap (joins g) (same-tok t a a′ ∙ s) ∙ joins-close g)
 
 -- what is refused there
-none-here : (t : List ℕ) {i b b′ : ℕ} → Longest white t i b → Longest white t i b′ → bad (cannot (tok t b′)) b′ ≡ bad (cannot (tok t b)) b
+none-here : (t : List ℕ) {i b b′ : ℕ} → Longest white t i b → Longest white t i b′ →
+    bad (cannot (tok t b′)) b′ ≡ bad (cannot (tok t b)) b
 none-here t a a′ = ap (λ (x : ℕ). bad (cannot (tok t x)) x) (one-end a a′)
 
 -- a name there ends at one place
-same-name : (t : List ℕ) {i b b′ k k′ : ℕ} → Longest white t i b → Longest inner t (b + 1) k → Longest white t i b′ → Longest inner t (b′ + 1) k′ → (b′ ≡ b) × (k′ ≡ k)
+same-name : (t : List ℕ) {i b b′ k k′ : ℕ} → Longest white t i b → Longest inner t (b + 1) k → Longest white t i b′ →
+    Longest inner t (b′ + 1) k′ → (b′ ≡ b) × (k′ ≡ k)
 same-name t {k′ = k′} a r a′ r′ = let e = one-end a a′ in (e, one-end r (subst (λ (x : ℕ). Longest inner t (x + 1) k′) e r′))
 
 same-mark : (t : List ℕ) {i j j′ : ℕ} {m m′ : List ℕ} → Mark t i j m → Mark t i j′ m′ → (j′ ≡ j) × (m′ ≡ m)
@@ -55,7 +57,8 @@ not-bad : {c : Cause} {k j : ℕ} {w : List ℕ} {ns : List (List ℕ)} → good
 not-bad e = let z : _≡_ {A = ℕ} 0 1 = cc in omega arith
 
 -- what is read at equal places
-moved : {t : List ℕ} {s s′ : Part} {e e′ i i′ c c′ : ℕ} {o : Outcome} → s′ ≡ s → e′ ≡ e → i′ ≡ i → c′ ≡ c → Reads t s′ e′ i′ c′ o → Reads t s e i c o
+moved : {t : List ℕ} {s s′ : Part} {e e′ i i′ c c′ : ℕ} {o : Outcome} → s′ ≡ s → e′ ≡ e → i′ ≡ i → c′ ≡ c →
+    Reads t s′ e′ i′ c′ o → Reads t s e i c o
 moved {t} {s} {s′} {e} {e′} {i} {i′} {c} {c′} {o} p q r u h = subst (λ (x : ℕ). Reads t s e i x o) u (subst (λ (x : ℕ). Reads t s e x c′ o) r (subst (λ (x : ℕ). Reads t s x i′ c′ o) q (subst (λ (x : Part). Reads t x e′ i′ c′ o) p h)))
 
 one-outcome : {t : List ℕ} {s : Part} {e i c : ℕ} {o o′ : Outcome} → Reads t s e i c o → Reads t s e i c o′ → o′ ≡ o
@@ -295,7 +298,8 @@ one-mix {t} (x-no-star {k = k} {j = j} {ns = ns} a s r x q f u) (x-no-star {k = 
     none-here t u (subst (λ (y : ℕ). Longest white t y y′) j0 u′)
 
 -- the first token behind a bracket is one token
-behind : (t : List ℕ) {i b b′ l l′ : ℕ} → Longest white t i b → Longest white t (b + 1) l → Longest white t i b′ → Longest white t (b′ + 1) l′ → l′ ≡ l
+behind : (t : List ℕ) {i b b′ l l′ : ℕ} → Longest white t i b → Longest white t (b + 1) l → Longest white t i b′ →
+    Longest white t (b′ + 1) l′ → l′ ≡ l
 behind t {l′ = l′} a u a′ u′ = one-end u (subst (λ (x : ℕ). Longest white t (x + 1) l′) (one-end a a′) u′)
 
 one-open : {t : List ℕ} {i : ℕ} {o o′ : Outcome} → Opens t i o → Opens t i o′ → o′ ≡ o
@@ -368,7 +372,8 @@ abbrev Counted : ℕ → Outcome → Type 0
 Counted c (good j w ns) = c ≤ 64 → c + length ns ≤ 64
 Counted c (bad f k) = Unit {0}
 
-counted-after : (c x : ℕ) (w : List ℕ) (ns : List (List ℕ)) (o : Outcome) → (c ≤ 64 → c + length ns ≤ 64) → x ≡ c + length ns → Counted x o → Counted c (after w ns o)
+counted-after : (c x : ℕ) (w : List ℕ) (ns : List (List ℕ)) (o : Outcome) → (c ≤ 64 → c + length ns ≤ 64) →
+    x ≡ c + length ns → Counted x o → Counted c (after w ns o)
 counted-after c x w ns (good j v ms) a e h = λ z. let k = a z in let l = h (omega arith) in omega (arith, length-append ns ms)
 counted-after c x w ns (bad f k) a e h = tt
 

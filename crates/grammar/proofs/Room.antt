@@ -7,6 +7,7 @@ use native.Mathlib.Omega.{arith}
 use lib.ListN.{length, length-append}
 use Rattle.grammar.specs.Grammar.{code, Marks, unmarked, with-mark, Sym, cp, choice, seq, rest, Is, cp-name, cp-choice, cp-seq, is-choice, is-seq, rest-done, rest-next, Listed, listed-done, listed-next, Mixed, text-alone, text-star, text-names, ContentSpec, empty, mixed, children-choice, children-seq, Model}
 
+-- how many codes each production has at most, by its levels and names; there is a name
 abbrev Bound : Sym → ℕ → List ℕ → List (List ℕ) → Type 0
 Bound cp d w ns = (1 ≤ length ns) × (length w ≤ (d + 2) * length ns)
 Bound choice d w ns = (1 ≤ length ns) × (length w + 1 ≤ (d + 2) * length ns)
@@ -24,10 +25,13 @@ wide d a b x y h p q =
     let unit : 1 * a ≡ a = one-mul a in
     omega arith
 
-marked : (d : ℕ) (w m : List ℕ) (ns : List (List ℕ)) → length m ≤ 1 → (1 ≤ length ns) × (length w + 1 ≤ (d + 2) * length ns) → (1 ≤ length ns) × (length (w ++ m) ≤ (d + 2) * length ns)
+marked : (d : ℕ) (w m : List ℕ) (ns : List (List ℕ)) → length m ≤ 1 →
+    (1 ≤ length ns) × (length w + 1 ≤ (d + 2) * length ns) → (1 ≤ length ns) × (length (w ++ m) ≤ (d + 2) * length ns)
 marked d w m ns f h = let l = length-append w m in (h .0, omega (arith, h .1))
 
-grouped : (d e : ℕ) (w v : List ℕ) (ns ms : List (List ℕ)) → d ≡ e + 1 → (1 ≤ length ns) × (length w ≤ (e + 2) * length ns) → length v ≤ (e + 2 + 1) * length ms → (1 ≤ length (ns ++ ms)) × (length (w ++ v) + 1 ≤ (d + 2) * length (ns ++ ms))
+grouped : (d e : ℕ) (w v : List ℕ) (ns ms : List (List ℕ)) → d ≡ e + 1 →
+    (1 ≤ length ns) × (length w ≤ (e + 2) * length ns) → length v ≤ (e + 2 + 1) * length ms →
+    (1 ≤ length (ns ++ ms)) × (length (w ++ v) + 1 ≤ (d + 2) * length (ns ++ ms))
 grouped d e w v ns ms de h q =
     let p = wide e (length ns) (length ms) (length w) (length v) (h .0) (h .1) q in
     let same : e + 2 + 1 ≡ d + 2 = omega arith in
@@ -36,7 +40,8 @@ grouped d e w v ns ms de h q =
     let k = length-append ns ms in
     (omega (arith, h .0), omega arith)
 
-bound : {t : List ℕ} {n : ℕ} {s : Sym} {d i j : ℕ} {w : List ℕ} {ns : List (List ℕ)} → Is t n s d i j w ns → Bound s d w ns
+bound : {t : List ℕ} {n : ℕ} {s : Sym} {d i j : ℕ} {w : List ℕ} {ns : List (List ℕ)} → Is t n s d i j w ns →
+    Bound s d w ns
 bound {d = d} (cp-name {m = m} nm k) = let f = few k in let unit : (d + 2) * 1 ≡ d + 2 = mul-one (d + 2) in (omega arith, omega arith)
 bound {d = d} (cp-choice {w = w} {m = m} {ns = ns} r k) = marked d w m ns (few k) (bound r)
 bound {d = d} (cp-seq {w = w} {m = m} {ns = ns} r k) = marked d w m ns (few k) (bound r)
@@ -51,16 +56,19 @@ bound {d = d} (rest-next {g = g} {w = w} {v = v} {ns = ns} {ms = ms} a h u p q) 
     let s : (d + 2 + 1) * (length ns + length ms) ≡ (d + 2 + 1) * length (ns ++ ms) = ap (λ (z : ℕ). (d + 2 + 1) * z) (sym (length-append ns ms)) in
     omega arith
 
-listed-bound : {t : List ℕ} {n i j : ℕ} {v : List ℕ} {ms : List (List ℕ)} → Listed t n i j v ms → length v ≡ 2 * length ms
+listed-bound : {t : List ℕ} {n i j : ℕ} {v : List ℕ} {ms : List (List ℕ)} → Listed t n i j v ms →
+    length v ≡ 2 * length ms
 listed-bound (listed-done a h) = omega arith
 listed-bound (listed-next a h u nm q) = omega (arith, listed-bound q)
 
-mixed-bound : {t : List ℕ} {n i j : ℕ} {w : List ℕ} {ns : List (List ℕ)} → Mixed t n i j w ns → length w ≤ 2 * length ns + 1
+mixed-bound : {t : List ℕ} {n i j : ℕ} {w : List ℕ} {ns : List (List ℕ)} → Mixed t n i j w ns →
+    length w ≤ 2 * length ns + 1
 mixed-bound (text-alone a b c d e) = omega arith
 mixed-bound (text-star a b c d e f) = omega arith
 mixed-bound (text-names {v = v} a b c d e f nm q h) = omega (arith, listed-bound q, length-append (1 ∷ v) (5 ∷ []))
 
-spec-bound : {t : List ℕ} {n i j : ℕ} {w : List ℕ} {ns : List (List ℕ)} → ContentSpec t n 16 i j w ns → length ns ≤ 64 → length w ≤ 1280
+spec-bound : {t : List ℕ} {n i j : ℕ} {w : List ℕ} {ns : List (List ℕ)} → ContentSpec t n 16 i j w ns → length ns ≤ 64 →
+    length w ≤ 1280
 spec-bound (empty e) h = omega arith
 spec-bound (mixed m) h = omega (arith, mixed-bound m)
 spec-bound (children-choice {w = w} {m = m} r k) h = omega (arith, bound r .1, few k, length-append w m)

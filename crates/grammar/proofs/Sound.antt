@@ -3,7 +3,7 @@ use mathlib.Core.Path.{_≡_, refl, sym, ap, subst}
 use mathlib.Core.Bool.{true}
 use mathlib.Core.List.{List, [], _∷_, _++_}
 use mathlib.Core.Logic.{_⊎_, inl, inr, ⊎-elim}
-use Prim.Native.Nat.{ℕ, _+_, _-_, _≤_}
+use Prim.Native.Nat.{ℕ, _+_, _≤_}
 use native.Mathlib.Omega.{arith}
 use lib.Chars.{codes}
 use lib.ListN.{length, getD}
@@ -23,6 +23,7 @@ pub sound-mark : {t : List ℕ} {i j : ℕ} {m : List ℕ} → Mark t i j m → 
 sound-mark (none _) = unmarked
 sound-mark {t} {i} (one k) = with-mark (mark-byte t i k)
 
+-- what each part that is read is by the productions
 abbrev pub Stands : List ℕ → Part → ℕ → ℕ → Outcome → Type 0
 Stands t particle e i (good j w ns) = (b : ℕ) × While white t i b × Is t 32 cp e b j w ns
 Stands t body e i (good j w ns) = (x : ℕ) → i ≡ x + 1 → getD t x 0 ≡ 40 → Is t 32 choice (e + 1) x j w ns ⊎ Is t 32 seq (e + 1) x j w ns
@@ -38,21 +39,29 @@ Stands t listed e i (bad f k) = Unit {0}
 sound-name : (t : List ℕ) (b k : ℕ) → tok t b ≡ word → Longest inner t (b + 1) k → k ≤ b + 32 → Name t 32 b k
 sound-name t b k e r h = record { first = tok-says t b word e; later = r .run; short = h }
 
-sound-group : (t : List ℕ) (e x i b k j : ℕ) (w m : List ℕ) (ns : List (List ℕ)) → While white t i b → e ≡ x + 1 → Is t 32 choice (x + 1) b k w ns ⊎ Is t 32 seq (x + 1) b k w ns → Marks t k j m → Stands t particle e i (good j (w ++ m) ns)
+sound-group : (t : List ℕ) (e x i b k j : ℕ) (w m : List ℕ) (ns : List (List ℕ)) → While white t i b → e ≡ x + 1 →
+    Is t 32 choice (x + 1) b k w ns ⊎ Is t 32 seq (x + 1) b k w ns → Marks t k j m →
+    Stands t particle e i (good j (w ++ m) ns)
 sound-group t e x i b k j w m ns a ex (inl r) mk = (b, a, cp-choice (subst (λ (y : ℕ). Is t 32 choice y b k w ns) (sym ex) r) mk)
 sound-group t e x i b k j w m ns a ex (inr r) mk = (b, a, cp-seq (subst (λ (y : ℕ). Is t 32 seq y b k w ns) (sym ex) r) mk)
 
-sound-body : (t : List ℕ) (e i k l : ℕ) (w : List ℕ) (ns : List (List ℕ)) (g : Chain) (o : Outcome) → Stands t particle e i (good k w ns) → While white t k l → g ≡ chainOf (tok t l) → Stands t (onward g) e k o → Stands t body e i (after w ns o)
+sound-body : (t : List ℕ) (e i k l : ℕ) (w : List ℕ) (ns : List (List ℕ)) (g : Chain) (o : Outcome) →
+    Stands t particle e i (good k w ns) → While white t k l → g ≡ chainOf (tok t l) → Stands t (onward g) e k o →
+    Stands t body e i (after w ns o)
 sound-body t e i k l w ns Choice (good j v ms) p u c q = λ x ix br. inl (is-choice br refl (subst (λ (y : ℕ). While white t y (p .0)) ix (p .1)) (p .2) u (tok-says t l bar (chain-bar (tok t l) c)) q)
 sound-body t e i k l w ns Seq (good j v ms) p u c q = λ x ix br. inr (is-seq br refl (subst (λ (y : ℕ). While white t y (p .0)) ix (p .1)) (p .2) q)
 sound-body t e i k l w ns Choice (bad f y) p u c q = tt
 sound-body t e i k l w ns Seq (bad f y) p u c q = tt
 
-sound-next : (t : List ℕ) (e i k l : ℕ) (w : List ℕ) (ns : List (List ℕ)) (g : Chain) (o : Outcome) → While white t i l → joins g (tok t l) ≡ true → Stands t particle e (l + 1) (good k w ns) → Stands t (onward g) e k o → Stands t (onward g) e i (after (w ++ (code g ∷ [])) ns o)
+sound-next : (t : List ℕ) (e i k l : ℕ) (w : List ℕ) (ns : List (List ℕ)) (g : Chain) (o : Outcome) → While white t i l →
+    joins g (tok t l) ≡ true → Stands t particle e (l + 1) (good k w ns) → Stands t (onward g) e k o →
+    Stands t (onward g) e i (after (w ++ (code g ∷ [])) ns o)
 sound-next t e i k l w ns g (good j v ms) a s p q = rest-next a (joined g (tok t l) (getD t l 0) (pcdataAt t l) s (tok-says t l (tok t l) refl)) (p .1) (p .2) q
 sound-next t e i k l w ns g (bad f y) a s p q = tt
 
-sound-listed : (t : List ℕ) (e i k l : ℕ) (w : List ℕ) (ns : List (List ℕ)) (o : Outcome) → While white t i l → tok t l ≡ bar → Stands t named e (l + 1) (good k w ns) → Stands t listed e k o → Stands t listed e i (after (w ++ (3 ∷ [])) ns o)
+sound-listed : (t : List ℕ) (e i k l : ℕ) (w : List ℕ) (ns : List (List ℕ)) (o : Outcome) → While white t i l →
+    tok t l ≡ bar → Stands t named e (l + 1) (good k w ns) → Stands t listed e k o →
+    Stands t listed e i (after (w ++ (3 ∷ [])) ns o)
 sound-listed t e i k l w ns (good j v ms) a s p q =
     subst (λ (z : List ℕ). Listed t 32 i j ((z ++ (3 ∷ [])) ++ v) (ns ++ ms)) (sym (p .3))
     (subst (λ (z : List (List ℕ)). Listed t 32 i j (1 ∷ (3 ∷ v)) (z ++ ms)) (sym (p .4)) (listed-next a (tok-says t l bar s) (p .1) (p .2) q))
@@ -81,11 +90,13 @@ sound (l-bad a s r) = tt
 sound {t} {s} {e} {i} (l-next {l = l} {k = k} {w = w} {ns = ns} {o = o} a s′ r x q) = sound-listed t e i k l w ns o (a .run) s′ (sound r) (sound q)
 sound (l-none a x y) = tt
 
+-- what is read as a content specification is one
 abbrev pub Spec : List ℕ → ℕ → Outcome → Type 0
 Spec t i (good j w ns) = (b : ℕ) × While white t i b × ContentSpec t 32 16 b j w ns
 Spec t i (bad f k) = Unit {0}
 
-sound-mixed : (t : List ℕ) (i b l : ℕ) (o : Outcome) → While white t i b → tok t b ≡ opens → While white t (b + 1) l → tok t l ≡ pcdata → Mixes t (l + 7) o → Spec t i o
+sound-mixed : (t : List ℕ) (i b l : ℕ) (o : Outcome) → While white t i b → tok t b ≡ opens → While white t (b + 1) l →
+    tok t l ≡ pcdata → Mixes t (l + 7) o → Spec t i o
 sound-mixed t i b l o a s u p (x-text {l = y} z e f) = (b, a, mixed (text-alone (tok-says t b opens s) u (pcdata-slice t l p) (z .run) (tok-says t y closes e)))
 sound-mixed t i b l o a s u p (x-star {l = y} z e f) = (b, a, mixed (text-star (tok-says t b opens s) u (pcdata-slice t l p) (z .run) (tok-says t y closes e) (tok-says t (y + 1) star f)))
 sound-mixed t i b l o a s u p (x-none z e f) = tt
@@ -102,7 +113,8 @@ sound-mixed t i b l o a s u p (x-names {l = y} {k = k} {j = j} {w = w} {v = v} {
     )
 sound-mixed t i b l o a s u p (x-no-star z e r h q f g) = tt
 
-sound-children : (t : List ℕ) (i b k j : ℕ) (w m : List ℕ) (ns : List (List ℕ)) → While white t i b → Is t 32 choice (15 + 1) b k w ns ⊎ Is t 32 seq (15 + 1) b k w ns → Marks t k j m → Spec t i (good j (w ++ m) ns)
+sound-children : (t : List ℕ) (i b k j : ℕ) (w m : List ℕ) (ns : List (List ℕ)) → While white t i b →
+    Is t 32 choice (15 + 1) b k w ns ⊎ Is t 32 seq (15 + 1) b k w ns → Marks t k j m → Spec t i (good j (w ++ m) ns)
 sound-children t i b k j w m ns a (inl r) mk = (b, a, children-choice r mk)
 sound-children t i b k j w m ns a (inr r) mk = (b, a, children-seq r mk)
 
@@ -120,7 +132,8 @@ sound-open (c-bad a s u p r) = tt
 to-end : (t : List ℕ) (j l : ℕ) → j ≤ length t → While white t j l → tok t l ≡ end → l ≡ length t
 to-end t j l h r e = ⊎-elim (λ k. absurd (inside-not t l k e)) (λ k. let z = run-inside white t refl r h in omega arith) (order l (length t))
 
-pub sound-whole : (t : List ℕ) {j : ℕ} {w : List ℕ} {ns : List (List ℕ)} → j ≤ length t → Whole t (good j w ns) → Model t 32 16 w ns
+pub sound-whole : (t : List ℕ) {j : ℕ} {w : List ℕ} {ns : List (List ℕ)} → j ≤ length t → Whole t (good j w ns) →
+    Model t 32 16 w ns
 sound-whole t {j} {w} {ns} h (w-good {l = l} r u e) =
     let x = sound-open r in
     record { from = x .0; to = j; before = x .1; spec = x .2; after = subst (λ (y : ℕ). While white t j y) (to-end t j l h (u .run) e) (u .run) }

@@ -111,7 +111,8 @@ begins-take (x ∷ w) (b ∷ s) e = go (λ h. begins-take w s h) e
     same-byte true h = (refl, h)
     same-byte false h = absurd (not-both h refl)
 
-    go : (begins w s ≡ true → take (length w) s ≡ w) → cond (eqb b x) (begins w s) false ≡ true → b ∷ take (length w) s ≡ x ∷ w
+    go : (begins w s ≡ true → take (length w) s ≡ w) → cond (eqb b x) (begins w s) false ≡ true →
+        b ∷ take (length w) s ≡ x ∷ w
     go f h =
         let z = same-byte (eqb b x) h in
         let one′ : b ≡ x = grind (arith, tells) in

@@ -52,33 +52,49 @@ pub data Sym : Type 0 where
 pub data Is (t : List ℕ) (n : ℕ) : Sym → ℕ → ℕ → ℕ → List ℕ → List (List ℕ) → Type 0 where
   -- cp ::= (Name | choice | seq) ('?' | '*' | '+')?
   cp-name : {d i k j : ℕ} {m : List ℕ} → Name t n i k → Marks t k j m → Is t n cp d i j (1 ∷ m) (slice t i k ∷ [])
-  cp-choice : {d i k j : ℕ} {w m : List ℕ} {ns : List (List ℕ)} → Is t n choice d i k w ns → Marks t k j m → Is t n cp d i j (w ++ m) ns
-  cp-seq : {d i k j : ℕ} {w m : List ℕ} {ns : List (List ℕ)} → Is t n seq d i k w ns → Marks t k j m → Is t n cp d i j (w ++ m) ns
+  cp-choice : {d i k j : ℕ} {w m : List ℕ} {ns : List (List ℕ)} → Is t n choice d i k w ns → Marks t k j m →
+      Is t n cp d i j (w ++ m) ns
+  cp-seq : {d i k j : ℕ} {w m : List ℕ} {ns : List (List ℕ)} → Is t n seq d i k w ns → Marks t k j m →
+      Is t n cp d i j (w ++ m) ns
   -- choice ::= '(' S? cp ( S? '|' S? cp )+ S? ')': the first sign is a bar, so there is one
-  is-choice : {d e i b k l j : ℕ} {w v : List ℕ} {ns ms : List (List ℕ)} → getD t i 0 ≡ 40 → d ≡ e + 1 → While white t (i + 1) b → Is t n cp e b k w ns → While white t k l → getD t l 0 ≡ 124 → Is t n (rest Choice) e k j v ms → Is t n choice d i j (w ++ v) (ns ++ ms)
+  is-choice : {d e i b k l j : ℕ} {w v : List ℕ} {ns ms : List (List ℕ)} → getD t i 0 ≡ 40 → d ≡ e + 1 →
+      While white t (i + 1) b → Is t n cp e b k w ns → While white t k l → getD t l 0 ≡ 124 →
+      Is t n (rest Choice) e k j v ms → Is t n choice d i j (w ++ v) (ns ++ ms)
   -- seq ::= '(' S? cp ( S? ',' S? cp )* S? ')'
-  is-seq : {d e i b k j : ℕ} {w v : List ℕ} {ns ms : List (List ℕ)} → getD t i 0 ≡ 40 → d ≡ e + 1 → While white t (i + 1) b → Is t n cp e b k w ns → Is t n (rest Seq) e k j v ms → Is t n seq d i j (w ++ v) (ns ++ ms)
+  is-seq : {d e i b k j : ℕ} {w v : List ℕ} {ns ms : List (List ℕ)} → getD t i 0 ≡ 40 → d ≡ e + 1 →
+      While white t (i + 1) b → Is t n cp e b k w ns → Is t n (rest Seq) e k j v ms →
+      Is t n seq d i j (w ++ v) (ns ++ ms)
   -- ( S? sign S? cp )* S? ')'
   rest-done : {g : Chain} {d i l : ℕ} → While white t i l → getD t l 0 ≡ 41 → Is t n (rest g) d i (l + 1) [] []
-  rest-next : {g : Chain} {d i l b k j : ℕ} {w v : List ℕ} {ns ms : List (List ℕ)} → While white t i l → getD t l 0 ≡ sign g → While white t (l + 1) b → Is t n cp d b k w ns → Is t n (rest g) d k j v ms → Is t n (rest g) d i j ((w ++ (code g ∷ [])) ++ v) (ns ++ ms)
+  rest-next : {g : Chain} {d i l b k j : ℕ} {w v : List ℕ} {ns ms : List (List ℕ)} → While white t i l →
+      getD t l 0 ≡ sign g → While white t (l + 1) b → Is t n cp d b k w ns → Is t n (rest g) d k j v ms →
+      Is t n (rest g) d i j ((w ++ (code g ∷ [])) ++ v) (ns ++ ms)
 
 -- ( S? '|' S? Name )* S? ')': the names of a mixed model behind its first
 pub data Listed (t : List ℕ) (n : ℕ) : ℕ → ℕ → List ℕ → List (List ℕ) → Type 0 where
   listed-done : {i l : ℕ} → While white t i l → getD t l 0 ≡ 41 → Listed t n i (l + 1) [] []
-  listed-next : {i l b k j : ℕ} {v : List ℕ} {ms : List (List ℕ)} → While white t i l → getD t l 0 ≡ 124 → While white t (l + 1) b → Name t n b k → Listed t n k j v ms → Listed t n i j (1 ∷ (3 ∷ v)) (slice t b k ∷ ms)
+  listed-next : {i l b k j : ℕ} {v : List ℕ} {ms : List (List ℕ)} → While white t i l → getD t l 0 ≡ 124 →
+      While white t (l + 1) b → Name t n b k → Listed t n k j v ms → Listed t n i j (1 ∷ (3 ∷ v)) (slice t b k ∷ ms)
 
 -- Mixed ::= '(' S? '#PCDATA' (S? '|' S? Name)* S? ')*' | '(' S? '#PCDATA' S? ')'
 pub data Mixed (t : List ℕ) (n : ℕ) : ℕ → ℕ → List ℕ → List (List ℕ) → Type 0 where
-  text-alone : {i b l : ℕ} → getD t i 0 ≡ 40 → While white t (i + 1) b → slice t b (b + 7) ≡ codes "#PCDATA" → While white t (b + 7) l → getD t l 0 ≡ 41 → Mixed t n i (l + 1) (0 ∷ []) []
-  text-star : {i b l : ℕ} → getD t i 0 ≡ 40 → While white t (i + 1) b → slice t b (b + 7) ≡ codes "#PCDATA" → While white t (b + 7) l → getD t l 0 ≡ 41 → getD t (l + 1) 0 ≡ 42 → Mixed t n i (l + 1 + 1) (0 ∷ []) []
-  text-names : {i b l x k j : ℕ} {v : List ℕ} {ms : List (List ℕ)} → getD t i 0 ≡ 40 → While white t (i + 1) b → slice t b (b + 7) ≡ codes "#PCDATA" → While white t (b + 7) l → getD t l 0 ≡ 124 → While white t (l + 1) x → Name t n x k → Listed t n k j v ms → getD t j 0 ≡ 42 → Mixed t n i (j + 1) ((1 ∷ v) ++ (5 ∷ [])) (slice t x k ∷ ms)
+  text-alone : {i b l : ℕ} → getD t i 0 ≡ 40 → While white t (i + 1) b → slice t b (b + 7) ≡ codes "#PCDATA" →
+      While white t (b + 7) l → getD t l 0 ≡ 41 → Mixed t n i (l + 1) (0 ∷ []) []
+  text-star : {i b l : ℕ} → getD t i 0 ≡ 40 → While white t (i + 1) b → slice t b (b + 7) ≡ codes "#PCDATA" →
+      While white t (b + 7) l → getD t l 0 ≡ 41 → getD t (l + 1) 0 ≡ 42 → Mixed t n i (l + 1 + 1) (0 ∷ []) []
+  text-names : {i b l x k j : ℕ} {v : List ℕ} {ms : List (List ℕ)} → getD t i 0 ≡ 40 → While white t (i + 1) b →
+      slice t b (b + 7) ≡ codes "#PCDATA" → While white t (b + 7) l → getD t l 0 ≡ 124 → While white t (l + 1) x →
+      Name t n x k → Listed t n k j v ms → getD t j 0 ≡ 42 →
+      Mixed t n i (j + 1) ((1 ∷ v) ++ (5 ∷ [])) (slice t x k ∷ ms)
 
 -- contentspec ::= 'EMPTY' | Mixed | children, with children ::= (choice | seq) ('?' | '*' | '+')?
 pub data ContentSpec (t : List ℕ) (n d : ℕ) : ℕ → ℕ → List ℕ → List (List ℕ) → Type 0 where
   empty : {i : ℕ} → slice t i (i + 5) ≡ codes "EMPTY" → ContentSpec t n d i (i + 5) (0 ∷ []) []
   mixed : {i j : ℕ} {w : List ℕ} {ns : List (List ℕ)} → Mixed t n i j w ns → ContentSpec t n d i j w ns
-  children-choice : {i k j : ℕ} {w m : List ℕ} {ns : List (List ℕ)} → Is t n choice d i k w ns → Marks t k j m → ContentSpec t n d i j (w ++ m) ns
-  children-seq : {i k j : ℕ} {w m : List ℕ} {ns : List (List ℕ)} → Is t n seq d i k w ns → Marks t k j m → ContentSpec t n d i j (w ++ m) ns
+  children-choice : {i k j : ℕ} {w m : List ℕ} {ns : List (List ℕ)} → Is t n choice d i k w ns → Marks t k j m →
+      ContentSpec t n d i j (w ++ m) ns
+  children-seq : {i k j : ℕ} {w m : List ℕ} {ns : List (List ℕ)} → Is t n seq d i k w ns → Marks t k j m →
+      ContentSpec t n d i j (w ++ m) ns
 
 -- the whole text is a content specification, with white space around it or none
 pub record Model (t : List ℕ) (n d : ℕ) (w : List ℕ) (ns : List (List ℕ)) : Type 0 where

@@ -19,7 +19,8 @@ Refutes t too-many = (n d : ℕ) (w : List ℕ) (ns : List (List ℕ)) → Model
 
 -- what stands before k, but for white space right before k, begins a model
 abbrev pub Begun : List ℕ → ℕ → Type 0
-Begun t k = (j : ℕ) × (s : List ℕ) × (w : List ℕ) × (ns : List (List ℕ)) × While white t j k × Model (take j t ++ s) 32 16 w ns
+Begun t k = (j : ℕ) × (s : List ℕ) × (w : List ℕ) × (ns : List (List ℕ)) × While white t j k ×
+    Model (take j t ++ s) 32 16 w ns
 
 -- the texts have the same bytes up to k and the same token at k
 pub record Alike (t t′ : List ℕ) (k : ℕ) : Type 0 where

@@ -1,5 +1,5 @@
 // Content specifications by the productions of XML 1.0, and what holds of each text that is one.
-ghost use Rattle.grammar.specs.Theorems.{OneReading, CodesFit, GivesTree, GivesNames};
+ghost use Rattle.grammar.specs.Theorems.{OneReading, CodesFit, GivesTree, GivesNames, OneOutcome};
 
 /// Which sign joins the particles of a group.
 #[derive(Clone, Copy)]
@@ -34,6 +34,13 @@ pub fn gives_tree() -> u8
 /// Where no name of a model has over 32 bytes, each is a name.
 pub fn gives_names() -> u8
     ensures { λ _. ⌜ GivesNames ⌝ }
+{
+    0
+}
+
+/// The rules of reading give a text at most one outcome.
+pub fn one_outcome() -> u8
+    ensures { λ _. ⌜ OneOutcome ⌝ }
 {
     0
 }

@@ -31,7 +31,8 @@ while-le stop = omega arith
 while-le (on e r) = omega (arith, while-le r)
 
 -- two runs from one place that end where the test fails end at one place
-pub same-run : {p : ℕ → Bool} {t : List ℕ} {i j k : ℕ} → While p t i j → While p t i k → p (getD t j 0) ≡ false → p (getD t k 0) ≡ false → k ≡ j
+pub same-run : {p : ℕ → Bool} {t : List ℕ} {i j k : ℕ} → While p t i j → While p t i k → p (getD t j 0) ≡ false →
+    p (getD t k 0) ≡ false → k ≡ j
 same-run stop stop a b = refl
 same-run stop (on e r) a b = absurd (not-both e a)
 same-run (on e r) stop a b = absurd (not-both e b)
@@ -53,7 +54,8 @@ pub tok-past : (t : List ℕ) (i : ℕ) → length t ≤ i → tok t i ≡ end
 unfolding tok
 tok-past t i h = ap (λ (v : Bool). cond v (byClass (classOf (getD t i 0)) (pcdataAt t i)) end) (le-ltb i (length t) h)
 
-pub class-tok : (t : List ℕ) (i : ℕ) (k : Class) → i < length t → k ≡ classOf (getD t i 0) → byClass k (pcdataAt t i) ≡ tok t i
+pub class-tok : (t : List ℕ) (i : ℕ) (k : Class) → i < length t → k ≡ classOf (getD t i 0) →
+    byClass k (pcdataAt t i) ≡ tok t i
 class-tok t i k h e = ap (λ (v : Class). byClass v (pcdataAt t i)) e ∙ sym (tok-in t i h)
 
 -- what begins with a word is as long
@@ -62,11 +64,13 @@ begins-long [] s e = omega arith
 begins-long (x ∷ w) [] e = absurd (let z : _≡_ {A = ℕ} 0 1 = cc in omega arith)
 begins-long (x ∷ w) (b ∷ s) e = go (λ h. begins-long w s h) (eqb b x) e
   where
-    go : (begins w s ≡ true → length w ≤ length s) → (v : Bool) → cond v (begins w s) false ≡ true → length (x ∷ w) ≤ length (b ∷ s)
+    go : (begins w s ≡ true → length w ≤ length s) → (v : Bool) → cond v (begins w s) false ≡ true →
+        length (x ∷ w) ≤ length (b ∷ s)
     go f true h = omega (arith, f h)
     go f false h = absurd (let z : _≡_ {A = ℕ} 0 1 = cc in omega arith)
 
-pub named : (t : List ℕ) (i j : ℕ) → i < j → j ≤ length t → Longest inner t (i + 1) j → Named t i (take (j - i) (drop i t))
+pub named : (t : List ℕ) (i j : ℕ) → i < j → j ≤ length t → Longest inner t (i + 1) j →
+    Named t i (take (j - i) (drop i t))
 named t i j a b r =
     let long : length (take (j - i) (drop i t)) ≡ j - i = length-take-le (j - i) (drop i t) (omega (arith, length-drop i t)) in
     let there : j ≡ i + length (take (j - i) (drop i t)) = omega arith in

@@ -3,7 +3,7 @@ use mathlib.Core.Path.{_≡_, refl, sym, ap, subst, _∙_}
 use mathlib.Core.Bool.{Bool, true, false, cond}
 use mathlib.Core.List.{List}
 use mathlib.Core.Logic.{⊎-elim}
-use Prim.Native.Nat.{ℕ, _-_, _<_}
+use Prim.Native.Nat.{ℕ, _<_}
 use native.Mathlib.Omega.{arith}
 use lib.Dec.{eqb}
 use lib.ListN.{length, getD}
@@ -61,7 +61,8 @@ tok-says t i k e =
 pub byte-inside : (t : List ℕ) (i b : ℕ) → getD t i 0 ≡ b → 0 < b → i < length t
 byte-inside t i b e h = ⊎-elim (λ l. l) (λ l. absurd (let z = getD-past t i 0 l in omega arith)) (order i (length t))
 
-pub tok-of : (t : List ℕ) (i b : ℕ) (k : Class) → getD t i 0 ≡ b → 0 < b → classOf b ≡ k → tok t i ≡ byClass k (pcdataAt t i)
+pub tok-of : (t : List ℕ) (i b : ℕ) (k : Class) → getD t i 0 ≡ b → 0 < b → classOf b ≡ k →
+    tok t i ≡ byClass k (pcdataAt t i)
 tok-of t i b k e h f = tok-in t i (byte-inside t i b e h) ∙ ap (λ (v : Class). byClass v (pcdataAt t i)) (ap classOf e ∙ f)
 
 start-some : (b : ℕ) → start b ≡ true → 0 < b

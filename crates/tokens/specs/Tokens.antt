@@ -117,3 +117,23 @@ pub record Peeked (t : List ℕ) (i : ℕ) (r : Piece) : Type 0 where
   pub inside : i ≤ length t → r .at ≤ length t
   pub is : tokenOf (r .token) ≡ tok t (r .at)
   pub held : Held t (r .at) (r .token)
+
+-- the bytes of a name, and none where the token is no name
+abbrev pub bytesOf : Token → List ℕ
+bytesOf (Name n) = n .now
+bytesOf Pcdata = []
+bytesOf Open′ = []
+bytesOf Close′ = []
+bytesOf Bar′ = []
+bytesOf Comma′ = []
+bytesOf Query′ = []
+bytesOf Star′ = []
+bytesOf Plus′ = []
+bytesOf Stray = []
+bytesOf Other′ = []
+bytesOf End = []
+
+-- the first token from i on has one offset, one kind and one list of bytes
+abbrev pub OnePiece : Type 0
+OnePiece = (t : List ℕ) (i : ℕ) (r r′ : Piece) → Peeked t i r → Peeked t i r′ →
+    (r′ .at ≡ r .at) × (tokenOf (r′ .token) ≡ tokenOf (r .token)) × (bytesOf (r′ .token) ≡ bytesOf (r .token))

@@ -5,7 +5,7 @@ ghost use lib.Chars.{codes};
 ghost use lib.ListN.{length};
 ghost use Rattle.symbols.specs.Rule.{inner};
 ghost use Rattle.tokens.specs.Bytes.{white};
-ghost use Rattle.tokens.specs.Tokens.{tokenOf, tok, Longest, Held, Peeked, begins};
+ghost use Rattle.tokens.specs.Tokens.{tokenOf, tok, Longest, Held, Peeked, begins, OnePiece};
 
 pub mod classes;
 pub mod types;
@@ -93,4 +93,11 @@ pub fn peek(text: &[u8], from: usize) -> Piece<'_>
     let at = skip(text, from);
     let token = token_at(text, at);
     Piece { at, token }
+}
+
+/// The first token from an offset on is one: its own offset, its kind and its bytes.
+pub fn one_piece() -> u8
+    ensures { λ _. ⌜ OnePiece ⌝ }
+{
+    0
 }

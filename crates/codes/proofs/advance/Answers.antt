@@ -1,5 +1,5 @@
 use native.Mathlib.Omega.{arith}
-use mathlib.Core.Path.{_≡_, refl}
+use mathlib.Core.Path.{refl}
 use mathlib.Core.List.{_∷_}
 use Rattle.std.specs.declared.option.Option.the-variants.{Some}
 use Rattle.codes.specs.Tree.{empty}

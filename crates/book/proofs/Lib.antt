@@ -1,0 +1,4 @@
+pub mod Laid
+pub mod Fronts
+pub mod Theorems
+pub mod Written

@@ -1,0 +1,10 @@
+pub mod Runs
+pub mod Sound
+pub mod Whole
+pub mod Exact
+pub mod Opponents
+pub mod Numbering
+pub mod Told
+pub mod Chains
+pub mod Symbols
+pub mod Reading

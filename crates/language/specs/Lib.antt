@@ -1,0 +1,4 @@
+pub mod Words
+pub mod Sets
+pub mod Meaning
+pub mod Theorems

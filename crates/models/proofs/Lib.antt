@@ -1,0 +1,11 @@
+pub mod Bitsets
+pub mod Stacks
+pub mod OneCode
+pub mod Ended
+pub mod Tellings
+pub mod Sharing
+pub mod Clashing
+pub mod Written
+pub mod Judged
+pub mod Automata
+pub mod Answered

@@ -1,0 +1,3 @@
+pub mod Final
+pub mod Outputs
+pub mod Steps
