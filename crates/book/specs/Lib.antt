@@ -2,3 +2,4 @@ pub mod Books
 pub mod Entries
 pub mod Puts
 pub mod Makings
+pub mod Line

@@ -1,6 +1,7 @@
-// Books: several bodies in one list of bytes, with an entry for each.
+// Books, several bodies in one list of bytes with an entry for each, and the line that tells what a comparison found.
 ghost use Rattle.book.specs.Entries.{Refusals-stand, One-fault, Bodies-stand};
 
+pub mod lines;
 pub mod making;
 mod puts;
 pub mod reading;

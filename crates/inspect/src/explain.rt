@@ -64,7 +64,11 @@ fn report_competing(report: &mut Report, competing: Option<Pair>) -> Result<(), 
 }
 
 /// Adds to the report what the text of body `k` means, or gives the fault for which it is refused.
-pub fn explain(report: &mut Report, k: usize, text: &[u8]) -> Result<Result<(), Fault>, AllocError> {
+pub fn explain(
+    report: &mut Report,
+    k: usize,
+    text: &[u8],
+) -> Result<Result<(), Fault>, AllocError> {
     let mut codes = [0; MOST_CODES];
     let mut names = [NameRow {
         bytes: [0; 32],
@@ -74,7 +78,12 @@ pub fn explain(report: &mut Report, k: usize, text: &[u8]) -> Result<Result<(), 
         Ok(counts) => counts,
         Err(fault) => return Ok(Err(fault)),
     };
-    explain_model(report, k, front(&codes, counts.codes), front(&names, counts.names))
+    explain_model(
+        report,
+        k,
+        front(&codes, counts.codes),
+        front(&names, counts.names),
+    )
 }
 
 fn explain_model(

@@ -1,0 +1,5 @@
+// Books and lines worked out by hand from their rules.
+#[cfg(test)]
+mod books;
+#[cfg(test)]
+mod lines;
