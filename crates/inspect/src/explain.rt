@@ -64,7 +64,7 @@ fn report_competing(report: &mut Report, competing: Option<Pair>) -> Result<(), 
 }
 
 /// Adds to the report what the text of body `k` means, or gives the fault for which it is refused.
-pub fn explain(
+pub(crate) fn explain(
     report: &mut Report,
     k: usize,
     text: &[u8],

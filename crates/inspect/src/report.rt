@@ -11,7 +11,7 @@ pub struct Report {
 
 impl Report {
     /// An empty report.
-    pub fn new(heap: Global) -> Report {
+    pub(crate) fn new(heap: Global) -> Report {
         Report {
             bytes: Vec::new(heap),
             heap,
@@ -19,34 +19,34 @@ impl Report {
     }
 
     /// Where the report takes its memory from.
-    pub fn heap(&self) -> Global {
+    pub(crate) fn heap(&self) -> Global {
         self.heap
     }
 
     /// The report so far.
-    pub fn bytes(&self) -> &[u8] {
+    pub(crate) fn bytes(&self) -> &[u8] {
         self.bytes.as_slice()
     }
 
     /// Adds bytes as they are.
-    pub fn put(&mut self, bytes: &[u8]) -> Result<(), AllocError> {
+    pub(crate) fn put(&mut self, bytes: &[u8]) -> Result<(), AllocError> {
         self.bytes.extend_from_slice(bytes)
     }
 
     /// Adds a line.
-    pub fn line(&mut self, text: &str) -> Result<(), AllocError> {
+    pub(crate) fn line(&mut self, text: &str) -> Result<(), AllocError> {
         self.put(text.as_bytes())?;
         self.put(b"\n")
     }
 
     /// Adds a space and a number.
-    pub fn number(&mut self, n: usize) -> Result<(), AllocError> {
+    pub(crate) fn number(&mut self, n: usize) -> Result<(), AllocError> {
         let text = format!(self.heap, " {n}")?;
         self.put(text.as_bytes())
     }
 
     /// Adds the positions of a set, each after a space, or ` none`, and ends the line.
-    pub fn positions(&mut self, set: u64) -> Result<(), AllocError> {
+    pub(crate) fn positions(&mut self, set: u64) -> Result<(), AllocError> {
         if set == 0 {
             return self.line(" none");
         }

@@ -38,7 +38,7 @@ fn read_names(text: &[u8], at: usize, out: &mut Output) -> Result<usize, Fault>
 }
 
 /// A mixed model behind its `#PCDATA`, with the star that must stand behind names.
-pub fn read_mixed(text: &[u8], at: usize, out: &mut Output) -> Result<usize, Fault>
+pub(crate) fn read_mixed(text: &[u8], at: usize, out: &mut Output) -> Result<usize, Fault>
     requires { ⌜ now out .found ≡ 0 ⌝ }
     ensures { λ r. ⌜ DidMix (now (text .entry)) at (now (out .entry)) r (now (out .exit)) ⌝ }
 {

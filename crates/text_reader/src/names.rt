@@ -17,7 +17,7 @@ use tokens::types::Token;
 const MOST_BYTES: usize = 32;
 
 /// The fault of a token that can't follow.
-pub fn refuse(piece: Piece<'_>) -> Fault
+pub(crate) fn refuse(piece: Piece<'_>) -> Fault
     ensures { λ r. ⌜ r ≡ fault-of (cannot (tokenOf (piece .entry .token))) (piece .entry .at) ⌝ }
 {
     match piece.token {
@@ -27,7 +27,7 @@ pub fn refuse(piece: Piece<'_>) -> Fault
 }
 
 /// Keeps the name at `at`, and says where it ends.
-pub fn take_name(text: &[u8], at: usize, name: &[u8], out: &mut Output) -> Result<usize, Fault>
+pub(crate) fn take_name(text: &[u8], at: usize, name: &[u8], out: &mut Output) -> Result<usize, Fault>
     requires { ⌜ at + length (now name) ≤ length (now text) ⌝ }
     ensures { λ r. ⌜ Keeps (now (name .entry)) at (now (out .entry)) r (now (out .exit)) ⌝ }
 {

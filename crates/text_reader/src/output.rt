@@ -21,7 +21,7 @@ pub struct Output {
 
 impl Output {
     /// No code and no name.
-    pub fn new() -> Output
+    pub(crate) fn new() -> Output
         ensures { λ r. ⌜ Holds r [] [] ⌝ }
     {
         let blank = NameRow {
@@ -37,7 +37,7 @@ impl Output {
     }
 
     /// Keeps one more code, where a cell is left.
-    pub fn push(&mut self, code: u8)
+    pub(crate) fn push(&mut self, code: u8)
         ensures { λ _. ⌜ Grew (now (self .entry)) (now (self .exit)) (code ∷ []) [] ⌝ }
     {
         if self.count < MOST_CODES {
@@ -47,7 +47,7 @@ impl Output {
     }
 
     /// Keeps one more name.
-    pub fn push_name(&mut self, name: &[u8])
+    pub(crate) fn push_name(&mut self, name: &[u8])
         requires short { ⌜ length (now name) ≤ 32 ⌝ }
         requires room { ⌜ now self .found < 64 ⌝ }
         ensures { λ _. ⌜ Grew (now (self .entry)) (now (self .exit)) [] (now (name .entry) ∷ []) ⌝ }
@@ -58,7 +58,7 @@ impl Output {
 }
 
 /// Copies the first `n` cells.
-pub fn copy<T: Copy>(from: &[T], n: usize, to: &mut [T])
+pub(crate) fn copy<T: Copy>(from: &[T], n: usize, to: &mut [T])
     requires { ⌜ n ≤ length (now from) ⌝ ∗ ⌜ n ≤ length (now to) ⌝ }
     ensures { λ _. ⌜ now (to .exit) ≡ take n (now (from .entry)) ++ drop n (now (to .entry)) ⌝ }
 {

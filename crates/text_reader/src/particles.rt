@@ -53,7 +53,7 @@ fn code_of(chain: Chain) -> u8
 }
 
 /// The mark that stands right at `at`, if any.
-pub fn read_mark(text: &[u8], at: usize, out: &mut Output) -> usize
+pub(crate) fn read_mark(text: &[u8], at: usize, out: &mut Output) -> usize
     requires { ⌜ at ≤ length (now text) ⌝ }
     ensures { λ r. ⌜ DidMark (now (text .entry)) at (now (out .entry)) r (now (out .exit)) ⌝ }
 {
@@ -89,7 +89,7 @@ fn read_particle(text: &[u8], at: usize, depth: u8, out: &mut Output) -> Result<
 }
 
 /// The inside of a group, with its closing bracket.
-pub fn read_body(text: &[u8], at: usize, depth: u8, out: &mut Output) -> Result<usize, Fault>
+pub(crate) fn read_body(text: &[u8], at: usize, depth: u8, out: &mut Output) -> Result<usize, Fault>
     ensures { λ r. ⌜ Did (now (text .entry)) body depth at (now (out .entry)) r (now (out .exit)) ⌝ }
 {
     let first = read_particle(text, at, depth, out)?;

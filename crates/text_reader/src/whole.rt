@@ -57,7 +57,7 @@ fn read_spec(text: &[u8], out: &mut Output) -> Result<usize, Fault>
 }
 
 /// A content specification, and nothing behind it but white space.
-pub fn read_whole(text: &[u8], out: &mut Output) -> Result<usize, Fault>
+pub(crate) fn read_whole(text: &[u8], out: &mut Output) -> Result<usize, Fault>
     requires { ⌜ Holds (now out) [] [] ⌝ }
     ensures { λ r. ⌜ DidWhole (now (text .entry)) r (now (out .exit)) ⌝ }
 {
