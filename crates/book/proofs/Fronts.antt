@@ -1,17 +1,17 @@
 -- The entries of a book read one after the other. Assumes nothing.
-use mathlib.Core.Path.{_≡_, refl, sym, ap, _∙_, subst}
-use mathlib.Core.Logic.{_⊎_, inl, inr}
+use mathlib.Core.Path.{_≡_, refl, sym, ap, _∙_}
+use mathlib.Core.Logic.{inl, inr}
 use mathlib.Core.List.{List, [], _∷_, _++_, map}
-use Prim.Native.Nat.{ℕ, zero, suc, _+_, _-_, _*_, _<_, _≤_, min}
+use Prim.Native.Nat.{ℕ, _+_, _*_, _<_, _≤_}
 use native.Mathlib.Omega.{arith}
 use native.Mathlib.Numerals.{add-one}
 use borrow.Author.Count.{below-more}
-use lib.ListN.{length, getD, take, drop}
+use lib.ListN.{length, take, drop}
 use Rattle.std.specs.Iters.{counting}
 use Rattle.std.proofs.shelf.Lists.{append-assoc, append-nil, length-append, length-take, length-drop, drop-drop, take-all}
 use Rattle.std.proofs.shelf.Counted.{length-map-counting, map-counting-more}
-use Rattle.book.specs.Books.{two-bytes, together, entries-from, book-of, IsBook}
-use Rattle.book.specs.Entries.{count-in, offset-in, length-in, start-in, body-in, bodies-in, Right, Wrong, FirstWrong}
+use Rattle.book.specs.Books.{two-bytes, together, entries-from, IsBook}
+use Rattle.book.specs.Entries.{count-in, offset-in, length-in, start-in, body-in, bodies-in, Right, FirstWrong}
 use Rattle.book.proofs.Laid.{entries-push, together-push, take-add, Says, entry-says}
 
 -- the first k bodies as their entries give them

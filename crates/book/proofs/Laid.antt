@@ -1,15 +1,14 @@
 -- The layout of a book, read from its bytes and read from its bodies. Assumes nothing.
 use mathlib.Core.Path.{_≡_, refl, sym, ap, _∙_, subst}
-use mathlib.Core.Logic.{_⊎_, inl, inr}
+use mathlib.Core.Logic.{inl, inr}
 use mathlib.Core.List.{List, [], _∷_, _++_, map}
-use Prim.Native.Nat.{ℕ, zero, suc, _+_, _-_, _*_, _/_, _%_, _<_, _≤_}
+use Prim.Native.Nat.{ℕ, zero, suc, _+_, _*_, _/_, _%_, _<_, _≤_}
 use native.Mathlib.Omega.{arith}
 use native.Mathlib.Nat.{mod-add-div}
 use native.Mathlib.Numerals.{add-one}
 use lib.ListN.{length, getD, take, drop}
 use Rattle.std.specs.Iters.{counting}
-use Rattle.std.specs.shelf.Lists.{joined}
-use Rattle.std.proofs.shelf.Lists.{append-assoc, append-nil, length-append, length-take, length-drop, drop-drop, getD-drop, take-at, drop-at, take-all, take-append-drop, drop-all}
+use Rattle.std.proofs.shelf.Lists.{append-assoc, append-nil, length-append, length-drop, drop-drop, getD-drop, take-at, drop-at}
 use Rattle.std.proofs.shelf.Tests.{cases-lt}
 use Rattle.std.proofs.shelf.Counted.{getD-map-counting}
 use Rattle.book.specs.Books.{two-bytes, together, entries-from, book-of, IsBook}

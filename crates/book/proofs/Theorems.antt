@@ -1,15 +1,13 @@
 -- The theorems of reading: a refusal means that the bytes are no book; one fault; the only bodies. Assumes nothing.
-use mathlib.Core.Path.{_≡_, refl, sym, ap, _∙_, subst}
-use mathlib.Core.Logic.{_⊎_, inl, inr}
+use mathlib.Core.Path.{_≡_, sym, ap, _∙_}
+use mathlib.Core.Logic.{inl, inr}
 use mathlib.Core.List.{List}
-use Prim.Native.Nat.{ℕ, _+_, _*_, _<_, _≤_}
+use Prim.Native.Nat.{ℕ}
 use native.Mathlib.Omega.{arith}
-use lib.ListN.{length}
 use Rattle.std.proofs.shelf.Tests.{cases-order}
-use Rattle.faults.specs.declared.Fault.{Fault}
 use Rattle.faults.specs.declared.Fault.the-variants.{WrongBook}
 use Rattle.book.specs.Books.{IsBook}
-use Rattle.book.specs.Entries.{count-in, offset-in, length-in, start-in, Right, Wrong, FirstWrong, LeftOver, Counted, NoBook, Refused, Refusals-stand, One-fault, Bodies-stand}
+use Rattle.book.specs.Entries.{Right, Wrong, FirstWrong, NoBook, Refusals-stand, One-fault, Bodies-stand}
 use Rattle.book.proofs.Laid.{book-count, book-right, book-ends, book-bodies}
 
 right-wrong : (bytes : List ℕ) (k : ℕ) → Right bytes k → Wrong bytes k → ⊥

@@ -1,11 +1,11 @@
 -- One write after another, and the entries and bodies of a book so written. Assumes nothing.
 use mathlib.Core.Path.{_≡_, refl, sym, ap, _∙_, subst}
-use mathlib.Core.List.{List, [], _∷_, _++_, map}
+use mathlib.Core.List.{List, [], _∷_, _++_}
 use Prim.Native.Nat.{ℕ, zero, suc, _+_, _-_, _*_, _<_, _≤_}
 use native.Mathlib.Omega.{arith}
 use denote.Ref.{RefT}
 use lib.ListN.{length, take, drop, getD}
-use Rattle.std.proofs.shelf.Lists.{append-assoc, append-nil, length-append, length-take, drop-drop, take-all, take-more, getD-map, length-map}
+use Rattle.std.proofs.shelf.Lists.{append-assoc, append-nil, length-append, drop-drop, take-all, take-more, getD-map, length-map}
 use Rattle.book.specs.Books.{two-bytes, together, entries-from, book-of, IsBook}
 use Rattle.book.specs.Puts.{Put}
 use Rattle.book.specs.Makings.{contents, Enough, Made}

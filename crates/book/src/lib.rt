@@ -6,6 +6,12 @@ pub mod making;
 mod puts;
 pub mod reading;
 
+/// The most bodies of a book.
+pub const MOST_BODIES: usize = 16;
+
+/// The most bytes of a book.
+pub const MOST_BYTES: usize = 16384;
+
 /// A refusal of `Book::read` means that the bytes are the book of no bodies.
 pub fn refusals_stand() -> u8
     ensures { λ _. ⌜ Refusals-stand ⌝ }

@@ -6,7 +6,7 @@ ghost use lib.ListN.{length};
 ghost use Rattle.std.specs.Results.{Cases};
 ghost use Rattle.std.specs.Written.{decimal};
 ghost use Rattle.book.specs.Puts.{Put};
-ghost use Rattle.book.specs.Line.{shown-symbols, forms-shown, dots, places-shown, verdict-shown, line-of, Places, LineWritten, LineRefused};
+ghost use Rattle.book.specs.Line.{shown-symbols, forms-shown, dots, places-shown, verdict-shown, Places, LineWritten, LineRefused};
 use super::puts::put;
 use faults::Fault;
 use faults::Layer;

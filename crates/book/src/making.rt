@@ -8,6 +8,8 @@ ghost use Rattle.std.specs.Results.{Cases};
 ghost use Rattle.book.specs.Books.{two-bytes, together, entries-from, book-of};
 ghost use Rattle.book.specs.Puts.{Put};
 ghost use Rattle.book.specs.Makings.{contents, Made, Unmade};
+use super::MOST_BODIES;
+use super::MOST_BYTES;
 use super::puts::put;
 use faults::Fault;
 use faults::Layer;
@@ -19,7 +21,7 @@ fn book_size(bodies: &[&[u8]]) -> Option<usize>
 {
     let mut size = 1 + 4 * bodies.len();
     for body in bodies {
-        if body.len() > 16384 - size {
+        if body.len() > MOST_BYTES - size {
             return None;
         }
         size += body.len();
@@ -88,13 +90,13 @@ fn put_book(bodies: &[&[u8]], out: &mut [u8]) -> usize
 pub fn make(bodies: &[&[u8]], out: &mut [u8]) -> Result<usize, Fault>
     ensures { λ r. ⌜ Cases r (λ n. Made (contents (now (bodies .entry))) (now (out .entry)) (now (out .exit)) n) (λ f. Unmade (contents (now (bodies .entry))) (length (now (out .entry))) f × (now (out .exit) ≡ now (out .entry))) ⌝ }
 {
-    if bodies.len() < 1 || bodies.len() > 16 {
+    if bodies.len() < 1 || bodies.len() > MOST_BODIES {
         return Err(Fault::WrongBook { entry: 0 });
     }
     let Some(size) = book_size(bodies) else {
         return Err(Fault::TooLarge {
             layer: Layer::Book,
-            limit: 16384,
+            limit: MOST_BYTES,
         });
     };
     if out.len() < size {

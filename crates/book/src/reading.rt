@@ -7,6 +7,8 @@ ghost use Rattle.std.specs.Options.{Cases as BySome};
 ghost use Rattle.std.specs.Results.{Cases};
 ghost use Rattle.book.specs.Books.{two-bytes, IsBook};
 ghost use Rattle.book.specs.Entries.{count-in, body-in, bodies-in, Holds, Refused};
+use super::MOST_BODIES;
+use super::MOST_BYTES;
 use faults::Fault;
 use faults::Layer;
 
@@ -43,17 +45,17 @@ impl<'a> Book<'a> {
     pub fn read(bytes: &'a [u8]) -> Result<Book<'a>, Fault>
         ensures { λ r. ⌜ Cases r (λ b. (now (b .bytes) ≡ now (bytes .entry)) × IsBook (now (bytes .entry)) (bodies-in (now (bytes .entry)))) (λ f. Refused (now (bytes .entry)) f) ⌝ }
     {
-        if bytes.len() > 16384 {
+        if bytes.len() > MOST_BYTES {
             return Err(Fault::TooLarge {
                 layer: Layer::Book,
-                limit: 16384,
+                limit: MOST_BYTES,
             });
         }
         let [count, rest @ ..] = bytes else {
             return Err(Fault::WrongBook { entry: 0 });
         };
         let count = usize::from(*count);
-        if count < 1 || count > 16 {
+        if count < 1 || count > MOST_BODIES {
             return Err(Fault::WrongBook { entry: 0 });
         }
         let mut entries = rest;

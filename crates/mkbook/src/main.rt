@@ -1,6 +1,7 @@
 // Makes a book of model texts, and writes it on standard output.
 mod input;
 
+use book::MOST_BYTES;
 use book::making::make;
 use faults::FaultDisplay;
 use input::lines;
@@ -14,7 +15,7 @@ const USAGE: &str =
 
 /// Writes the book of the texts on standard output.
 fn write_book(rt: &LibcRuntime, texts: &[&[u8]]) -> Result<(), AnyError> {
-    let mut out = [0; 16384];
+    let mut out = [0; MOST_BYTES];
     match make(texts, &mut out) {
         Ok(size) => {
             rt.stdout().write_all(&out[0..size])?;

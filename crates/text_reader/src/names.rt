@@ -27,7 +27,12 @@ pub(crate) fn refuse(piece: Piece<'_>) -> Fault
 }
 
 /// Keeps the name at `at`, and says where it ends.
-pub(crate) fn take_name(text: &[u8], at: usize, name: &[u8], out: &mut Output) -> Result<usize, Fault>
+pub(crate) fn take_name(
+    text: &[u8],
+    at: usize,
+    name: &[u8],
+    out: &mut Output,
+) -> Result<usize, Fault>
     requires { ⌜ at + length (now name) ≤ length (now text) ⌝ }
     ensures { λ r. ⌜ Keeps (now (name .entry)) at (now (out .entry)) r (now (out .exit)) ⌝ }
 {

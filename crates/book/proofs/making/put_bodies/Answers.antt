@@ -1,7 +1,7 @@
 use mathlib.Core.Path.{sym, ap}
 use Prim.Native.Nat.{_+_}
 use native.Mathlib.Omega.{arith}
-use lib.ListN.{length, take}
+use lib.ListN.{take}
 use Rattle.book.specs.Books.{together}
 use Rattle.book.specs.Makings.{contents}
 use Rattle.book.proofs.Written.{put-put, put-same, content, together-more, length-together-more, together-most, contents-all}

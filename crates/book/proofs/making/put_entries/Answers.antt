@@ -1,10 +1,10 @@
-use mathlib.Core.Path.{_≡_, sym, ap, _∙_}
-use mathlib.Core.List.{List, _++_}
-use Prim.Native.Nat.{ℕ, _+_, _*_, _<_, _≤_}
+use mathlib.Core.Path.{sym, ap, _∙_}
+use mathlib.Core.List.{_++_}
+use Prim.Native.Nat.{ℕ, _+_, _*_}
 use native.Mathlib.Omega.{arith}
 use lib.ListN.{length, take}
 use Rattle.std.proofs.shelf.Lists.{length-take}
-use Rattle.book.specs.Books.{two-bytes, together, entries-from}
+use Rattle.book.specs.Books.{two-bytes, entries-from}
 use Rattle.book.specs.Makings.{contents}
 use Rattle.book.proofs.Laid.{length-entries, length-book}
 use Rattle.book.proofs.Written.{put-put, put-same, content, entries-more, length-contents, length-together-more, together-most, contents-all}

@@ -1,5 +1,5 @@
 use mathlib.Core.Path.{_≡_}
-use Prim.Native.Nat.{_+_, _*_, _≤_}
+use Prim.Native.Nat.{_+_, _*_}
 use lib.ListN.{length, take}
 use Rattle.book.specs.Books.{together, entries-from}
 use Rattle.book.specs.Puts.{Put}

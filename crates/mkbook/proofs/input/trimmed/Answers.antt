@@ -1,6 +1,4 @@
-use mathlib.Core.Path.{_≡_, sym, ap}
 use Prim.Native.Nat.{_<_}
-use native.Mathlib.Omega.{arith}
 use borrow.Author.Needs.{needs}
 use lib.ListN.{length}
 use Rattle.mkbook.proofs.Split.{no-return}

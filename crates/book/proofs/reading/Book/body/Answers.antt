@@ -1,11 +1,10 @@
 use mathlib.Core.Path.{_≡_, sym, ap, _∙_}
-use mathlib.Core.List.{List}
-use Prim.Native.Nat.{ℕ, _+_, _-_, _*_, _<_, _≤_}
+use Prim.Native.Nat.{ℕ, _+_, _-_, _*_}
 use native.Mathlib.Omega.{arith}
 use lib.ListN.{length, take, drop}
 use Rattle.std.proofs.shelf.Lists.{take-rest, length-drop}
 use Rattle.book.specs.Entries.{Holds, length-in, body-in}
-use Rattle.book.proofs.Laid.{Says, entry-says, book-no-body, book-body}
+use Rattle.book.proofs.Laid.{entry-says, book-no-body, book-body}
 use Rattle.book.proofs.reading.Book.body.Needs as need
 
 pub returns-then-at-bytes : need.returns-then-at-bytes

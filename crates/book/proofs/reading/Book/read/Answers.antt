@@ -1,4 +1,4 @@
-use mathlib.Core.Path.{_≡_, refl, sym, ap, _∙_, subst}
+use mathlib.Core.Path.{_≡_, refl, sym, subst}
 use mathlib.Core.Logic.{inl, inr}
 use mathlib.Core.List.{List}
 use Prim.Native.Nat.{ℕ, _+_, _*_, _<_, _≤_}
@@ -26,8 +26,8 @@ returns-in-rest-first-entry c =
     let k = c .loop-k .k in
     let n = c .from-count .ensures in
     let low : k < count-in bytes = omega (arith, n, c .loop-k-test .taken) in
-    let counted : Counted bytes = (omega (arith, n, c .if-count-lt1 .left), omega (arith, n, c .if-count-gt16 .left)) in
-    inr (c .if-bytes-gt16384 .left, (k, refl, inr (inl (counted, front-cut bytes k (c .loop-k .entries .now) (c .loop-k .start) (c .loop-k .inv .0) low (c .in-rest-first-entry .ensures tt)))))
+    let counted : Counted bytes = (omega (arith, n, c .if-count-lt1 .left), omega (arith, n, c .if-count-gt-MOST-BODIES .left)) in
+    inr (c .if-bytes-gt-MOST-BYTES .left, (k, refl, inr (inl (counted, front-cut bytes k (c .loop-k .entries .now) (c .loop-k .start) (c .loop-k .inv .0) low (c .in-rest-first-entry .ensures tt)))))
 
 pub add-start-else-entry-start : need.add-start-else-entry-start
 add-start-else-entry-start c = omega (arith, c .loop-k .inv .1, c .in-Some .ensures tt .2)
@@ -38,11 +38,11 @@ returns-then-entry-start c =
     let k = c .loop-k .k in
     let n = c .from-count .ensures in
     let low : k < count-in bytes = omega (arith, n, c .loop-k-test .taken) in
-    let counted : Counted bytes = (omega (arith, n, c .if-count-lt1 .left), omega (arith, n, c .if-count-gt16 .left)) in
+    let counted : Counted bytes = (omega (arith, n, c .if-count-lt1 .left), omega (arith, n, c .if-count-gt-MOST-BODIES .left)) in
     let entry = c .in-Some .entry in
     let e = c .in-Some .ensures tt .0 in
     inr (
-      c .if-bytes-gt16384 .left,
+      c .if-bytes-gt-MOST-BYTES .left,
       (
         k,
         refl,
@@ -61,7 +61,7 @@ loop-k-again c =
     let bytes = c .args .bytes .now in
     let entry = c .in-Some .entry in (
       front-more bytes (c .loop-k .k) (c .loop-k .entries .now) (c .loop-k .start) (c .loop-k .inv .0) (entry .offset) (entry .size) (c .in-Some .others .now) (c .in-Some .ensures tt .0) (c .if-entry-start .left) (c .if-start-entry .left),
-      omega (arith, c .if-start-entry .left, c .if-bytes-gt16384 .left),
+      omega (arith, c .if-start-entry .left, c .if-bytes-gt-MOST-BYTES .left),
     )
 
 pub returns : need.returns
@@ -70,4 +70,4 @@ returns c =
     let n = c .from-count .ensures in
     let all : c .loop-k .k ≡ count-in bytes = omega (arith, n, c .loop-k-test .left) in
     let front : Front bytes (count-in bytes) (c .loop-k .entries .now) (c .loop-k .start) = subst (λ (k : ℕ). Front bytes k (c .loop-k .entries .now) (c .loop-k .start)) all (c .loop-k .inv .0) in
-    (refl, front-all bytes (c .loop-k .entries .now) (c .loop-k .start) front (c .if-start-bytes .left) (omega (arith, n, c .if-count-lt1 .left)) (omega (arith, n, c .if-count-gt16 .left)) (c .if-bytes-gt16384 .left))
+    (refl, front-all bytes (c .loop-k .entries .now) (c .loop-k .start) front (c .if-start-bytes .left) (omega (arith, n, c .if-count-lt1 .left)) (omega (arith, n, c .if-count-gt-MOST-BODIES .left)) (c .if-bytes-gt-MOST-BYTES .left))

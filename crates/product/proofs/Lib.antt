@@ -1,0 +1,5 @@
+pub mod Steps
+pub mod Readings
+pub mod Astray
+pub mod Says
+pub mod Answered

@@ -1,0 +1,4 @@
+pub mod Pairs
+pub mod PairsSound
+pub mod Compares
+pub mod Theorems

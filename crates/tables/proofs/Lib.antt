@@ -1,0 +1,9 @@
+pub mod Words
+pub mod Leading
+pub mod Laws
+pub mod Limits
+pub mod Taken
+pub mod Piles
+pub mod Places
+pub mod PlaceLaws
+pub mod Leasts

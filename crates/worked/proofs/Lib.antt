@@ -1,0 +1,4 @@
+pub mod Formed
+pub mod Loading
+pub mod Comparing
+pub mod Joint
