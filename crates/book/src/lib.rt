@@ -1,4 +1,6 @@
 // Books, several bodies in one list of bytes with an entry for each, and the line that tells what a comparison found.
+#![tactic(auto)]
+
 ghost use Rattle.book.specs.Entries.{RefusalsStand, OneFault, BodiesStand};
 
 pub mod lines;

@@ -1,4 +1,6 @@
 // Postfix codes: which lists of codes are those of a model, and where any other is at fault.
+#![tactic(auto)]
+
 ghost use Rattle.std.specs.Prelude.{◌≡◌, ℕ, ◌≤◌, List, length};
 ghost use Rattle.codes.specs.Tree.{Tree};
 ghost use Rattle.codes.specs.Build.{step};

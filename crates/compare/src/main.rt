@@ -1,4 +1,6 @@
 // Tells of each model of a book whether it is included in the next one.
+#![tactic(auto)]
+
 use anyhow::anyhow;
 use slip::slip_of;
 use std::env;

@@ -1,4 +1,6 @@
 //! Comparisons of a place with a reader, and lists of calls on a shelf.
+#![tactic(auto)]
+
 mod calls;
 mod comparing;
 pub mod laws;

@@ -1,4 +1,6 @@
 //! The verdict on two texts, for an editor written in C.
+#![tactic(auto)]
+
 ghost use Rattle.editor.specs.Answers.{Told, OneNumber};
 
 mod including;

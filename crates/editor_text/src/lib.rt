@@ -1,4 +1,6 @@
 // The reader and the writer of content models, for a program in C to link: no shelf is needed.
+#![tactic(auto)]
+
 ghost use Rattle.std.specs.Prelude.{◌≡◌};
 ghost use Rattle.faults.specs.Card.{number};
 ghost use Rattle.editor_text.specs.Calls.{names_of, ReadCall, WriteCall, OneRead, OneWrite};

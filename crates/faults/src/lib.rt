@@ -1,4 +1,6 @@
 // The card of faults: every way in which a call refuses what it is given.
+#![tactic(auto)]
+
 ghost use Rattle.std.specs.Prelude.{◌≡◌, Some};
 ghost use Rattle.faults.specs.Card.{number, layer, values};
 ghost use Rattle.faults.specs.Shown.{layer_shown, values_shown, numbered_shown, fault_shown};

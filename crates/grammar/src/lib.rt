@@ -1,4 +1,6 @@
 // Content specifications by the productions of XML 1.0, and what holds of each text that is one.
+#![tactic(auto)]
+
 ghost use Rattle.grammar.specs.Theorems.{OneReading, CodesFit, GivesTree, GivesNames, OneOutcome};
 
 /// Which sign joins the particles of a group.

@@ -1,4 +1,6 @@
 // Explains the models of a book, a body at a time: what each means, and its text as the writer gives it.
+#![tactic(auto)]
+
 mod explain;
 mod report;
 

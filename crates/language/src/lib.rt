@@ -1,4 +1,6 @@
 // The marked words of content models, and the theorems on them that the tables of a model rest on.
+#![tactic(auto)]
+
 ghost use Rattle.language.specs.Theorems.{LocalWords, Parting, PositionsOccur, SetsExact, TreeOfCodes};
 
 /// The tree that codes build is the one whose codes they are.

@@ -1,4 +1,6 @@
 //! The search at the largest size that a comparison can ask for: 65 × 4,097 = 266,305 nodes, with 64 labels.
+#![tactic(auto)]
+
 ghost use Rattle.std.specs.Prelude.{◌≡◌, ℕ, ◌+◌, ◌%◌, ◌<◌, ◌≤◌, length, ◌≢◌, slice_index};
 ghost use Rattle.largest_walk.specs.Shapes.{tree, tree_sound, line, line_sound};
 

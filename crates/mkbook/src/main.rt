@@ -1,4 +1,6 @@
 // Makes a book of model texts, and writes it on standard output.
+#![tactic(auto)]
+
 mod input;
 
 use anyhow::anyhow;

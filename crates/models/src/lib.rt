@@ -1,4 +1,6 @@
 // Models by their positions: the tables of a model, the positions that compete, and the trial of a word.
+#![tactic(auto)]
+
 ghost use Rattle.std.specs.Prelude.{◌≡◌, ◌++◌, length, take, drop};
 ghost use Rattle.language.specs.Meaning.{Model, given};
 ghost use Rattle.models.specs.TablesOf.{TablesOf};

@@ -1,4 +1,6 @@
 //! A model, given by its tables, against a reader: whether the reader takes every word of the model.
+#![tactic(auto)]
+
 ghost use Rattle.std.specs.Prelude.{◌≡◌, length};
 ghost use Rattle.language.specs.Meaning.{Model};
 ghost use Rattle.models.specs.TablesOf.{TablesOf};

@@ -1,4 +1,6 @@
 // A reader of one word, and tests of readers under layers.
+#![tactic(auto)]
+
 ghost use Rattle.std.specs.Prelude.{◌≡◌};
 ghost use Rattle.reader_vectors.specs.OneWords.{stands, one_word_table, one_word_sound};
 

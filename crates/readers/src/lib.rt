@@ -1,4 +1,6 @@
 // Readers of words over any kind of symbol, and the layers over a reader.
+#![tactic(auto)]
+
 ghost use Rattle.std.specs.Prelude.{◌≡◌, Decides};
 ghost use Rattle.tables.specs.Tables.{Table, Sound, Alike};
 ghost use Rattle.tables.specs.Words.{Takes};

@@ -1,4 +1,6 @@
 // Runs a script of cues on a shelf, and tells what became of each of its lines.
+#![tactic(auto)]
+
 mod answering;
 mod bench;
 mod commands;

@@ -1,4 +1,6 @@
 // A shelf of sixteen places for models, whose symbols and followers stand in lists that are lent to each call.
+#![tactic(auto)]
+
 pub mod laws;
 mod place_readers;
 mod records;

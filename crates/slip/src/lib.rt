@@ -1,4 +1,6 @@
 //! The slip: what a tester is told of the models of a book.
+#![tactic(auto)]
+
 ghost use Rattle.slip.specs.Theorems.{OneSlip};
 
 mod calls;

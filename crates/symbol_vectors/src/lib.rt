@@ -1,4 +1,6 @@
 // Faults, names and cues worked out by hand from the rules.
+#![tactic(auto)]
+
 #[cfg(test)]
 mod cues;
 #[cfg(test)]

@@ -1,4 +1,6 @@
 // Kinds of symbols: when two symbols are the same, which are foreign, and how one is written.
+#![tactic(auto)]
+
 ghost use Rattle.std.specs.Prelude.{◌≡◌, ℕ, Bool, List};
 ghost use Rattle.symbols.specs.Kinds.{KindLaws};
 ghost use Rattle.symbols.specs.Forms.{Sized, form_bytes};

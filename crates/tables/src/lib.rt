@@ -1,2 +1,4 @@
 // What readers mean: tables of states, the layers over them, and their laws. No code.
+#![tactic(auto)]
+
 use symbols::Symbol;

@@ -1,4 +1,6 @@
 // The reader of content models: from a text to its codes and names.
+#![tactic(auto)]
+
 ghost use Rattle.std.specs.Prelude.{◌≡◌, is_ok, Decides};
 ghost use Rattle.text_reader.specs.Answer.{Answer, Readable, OneAnswer};
 

@@ -1,4 +1,6 @@
 // Content models worked out by hand from the rules, and what the reader must answer to each.
+#![tactic(auto)]
+
 #[cfg(test)]
 mod limits;
 #[cfg(test)]

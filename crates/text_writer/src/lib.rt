@@ -1,4 +1,6 @@
 // The writer of content models: from codes and names to clean text.
+#![tactic(auto)]
+
 ghost use Rattle.std.specs.Prelude.{◌≡◌, ℕ, not, ◌&&◌, List, map, length, ◌==◌, nat_le, slice_index};
 ghost use Rattle.codes.specs.Tree.{Tree};
 ghost use Rattle.symbols.specs.NameRows.{row_bytes};

@@ -1,4 +1,6 @@
 // The tokens of a content model: a name as long as it goes on, `#PCDATA`, a sign, any other byte by itself, or the end.
+#![tactic(auto)]
+
 ghost use Rattle.std.specs.Prelude.{◌≡◌, ◌≤◌, length, codes};
 ghost use Rattle.symbols.specs.Rule.{inner};
 ghost use Rattle.tokens.specs.Bytes.{white};

@@ -1,4 +1,6 @@
 //! What a text means as a model of names, and what one model is to another. Each function only states its theorem.
+#![tactic(auto)]
+
 ghost use Rattle.verdicts.specs.Theorems.{OneMeaning, OneVerdict, TextsAreFormed};
 
 use symbols::Symbol;

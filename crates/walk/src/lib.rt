@@ -1,4 +1,6 @@
 //! The least word that leads from the start of a labelled graph to a wanted node, by a breadth-first search over lent lists.
+#![tactic(auto)]
+
 ghost use Rattle.std.specs.Prelude.{◌≡◌, ◌+◌, ◌*◌, ◌^◌, ◌<◌, ◌≤◌, ◌++◌, length, drop, replicate, slice_index};
 ghost use Rattle.walk.specs.Order.{Word};
 ghost use Rattle.walk.specs.Graph.{LabelledGraph, Sound};

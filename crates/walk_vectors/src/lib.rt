@@ -1,4 +1,6 @@
 //! Small graphs, each with its least word worked out by hand.
+#![tactic(auto)]
+
 ghost use Rattle.walk_vectors.specs.Table.{table_graph, table_sound};
 
 use walk::Graph;

@@ -1,4 +1,6 @@
 //! Worked cases: what loads, trials, comparisons and layers answer for small models. Each function only states its theorem.
+#![tactic(auto)]
+
 ghost use Rattle.worked.specs.Cases.{WorkedCases};
 ghost use Rattle.worked.specs.Kinds.{WorkedCues, WorkedNames};
 
