@@ -7,16 +7,16 @@ use Rattle.codes.proofs.Faulty.{build_codes, fault_first}
 use Rattle.codes.proofs.Counts.{goes_on, goes_not, at_end, finish_model, finish_fault}
 use Rattle.codes.proofs.check.Goals as goal
 
-pub returns-in-err-within-limits : goal.returns-in-err-within-limits
-returns-in-err-within-limits c =
-    let p = err_from_is_err_and c.from-residual.result c.from-residual.ensures.1 in
-    rw (p.1, p.2) (limited_refused c.args.symbols c.args.codes.now _ c.in-err-within-limits.ensures)
+pub returns-in_err-within_limits : goal.returns-in_err-within_limits
+returns-in_err-within_limits c =
+    let p = err_from_is_err_and c.from_residual.result c.from_residual.ensures.1 in
+    rw (p.1, p.2) (limited_refused c.args.symbols c.args.codes.now _ c.in_err-within_limits.ensures)
 
 pub returns-in-None : goal.returns-in-None
 returns-in-None c =
     let v = c.loop-i.invariant.0 in
     let h = c.in-None.ensures.made v.0 v.1 in
-    malformed c.in-ok-within-limits.ensures.0 c.in-ok-within-limits.ensures.1
+    malformed c.in_ok-within_limits.ensures.0 c.in_ok-within_limits.ensures.1
     (fault_first (goes_not c.args.symbols c.args.codes.now c.loop-i.i c.loop-i.tally.used v.0 (omega arith) v.2 h))
 
 pub loop-i-preserved : goal.loop-i-preserved
@@ -34,8 +34,8 @@ returns-then-tally-symbols c =
     let one : length v.0 ≡ 1 = omega (arith, v.1) in
     let f = finish_model c.args.symbols c.loop-i.i c.loop-i.tally.used v.0 one c.if-tally-symbols.true in
     record {
-      few = c.in-ok-within-limits.ensures.0;
-      short = c.in-ok-within-limits.ensures.1;
+      few = c.in_ok-within_limits.ensures.0;
+      short = c.in_ok-within_limits.ensures.1;
       tree = f.0;
       codes = build_codes (at_end c.args.symbols c.args.codes.now c.loop-i.i c.loop-i.tally.used v.0 (omega arith) v.2 ∙ f.1);
     }
@@ -45,7 +45,7 @@ returns-else-tally-eq1 c =
     let v = c.loop-i.invariant.0 in
     let e : c.loop-i.i ≡ length c.args.codes.now = omega arith in
     let z : length v.0 ≡ 1 → c.loop-i.tally.used ≡ c.args.symbols → ⊥ = λ a b. omega (arith, v.1, c.else-tally-eq1.either) in
-    malformed c.in-ok-within-limits.ensures.0 c.in-ok-within-limits.ensures.1
+    malformed c.in_ok-within_limits.ensures.0 c.in_ok-within_limits.ensures.1
     (fault_first (at_end c.args.symbols c.args.codes.now c.loop-i.i c.loop-i.tally.used v.0 (omega arith) v.2
     ∙ finish_fault c.args.symbols c.loop-i.i c.loop-i.tally.used v.0 z
     ∙ ap fault e))

@@ -3,8 +3,8 @@ use Rattle.std.proofs.lemmas.List.{length_push}
 use Rattle.walk.proofs.Traces.{last_link, traced_none, traced_short}
 use Rattle.walk.proofs.depth.Goals as goal
 
-pub offset-bounds-queue-place : goal.offset-bounds-queue-place
-offset-bounds-queue-place c =
+pub offset_bounds-queue-place : goal.offset_bounds-queue-place
+offset_bounds-queue-place c =
     let i = c.loop-place.invariant c.requires.0 c.requires.1 in
     let s = last_link i.1 (omega arith) in
     omega (arith, s.place)
@@ -19,8 +19,8 @@ bounds-links-queue c =
     let i = c.loop-place.invariant c.requires.0 c.requires.1 in
     (last_link i.1 (omega arith)).node
 
-pub overflow-add-count : goal.overflow-add-count
-overflow-add-count c =
+pub overflow_add-count : goal.overflow_add-count
+overflow_add-count c =
     let i = c.loop-place.invariant c.requires.0 c.requires.1 in
     let s = last_link i.1 (omega arith) in
     omega (arith, i.2, ap length s.ends, length_push s.rest, traced_short c.requires.1)

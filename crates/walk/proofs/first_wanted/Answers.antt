@@ -8,24 +8,24 @@ loop-head-init g c =
     let S = g.G.Graph.sound c.args.graph.now in
     rw (c.clear.ensures, c.start-start.ensures) (begin S _ _ c.requires.0 (omega arith), omega arith)
 
-pub is-wanted-at-requires : goal.is-wanted-at-requires
-is-wanted-at-requires g c = let W = c.loop-head.invariant.0 in omega (arith, tail_room W, W.entries.room)
+pub is_wanted_at-requires : goal.is_wanted_at-requires
+is_wanted_at-requires g c = let W = c.loop-head.invariant.0 in omega (arith, tail_room W, W.entries.room)
 
-pub returns-then-is-wanted-at : goal.returns-then-is-wanted-at
-returns-then-is-wanted-at g c =
+pub returns-then-is_wanted_at : goal.returns-then-is_wanted_at
+returns-then-is_wanted_at g c =
     let W = c.loop-head.invariant.0 in
     let p = c.loop-head-test.true in (
       omega (arith, tail_room W),
       (
         W.entries.word c.loop-head.head,
         traces W c.loop-head.head p,
-        least_wanted W c.loop-head.invariant.1 p c.if-is-wanted-at.ensures,
+        least_wanted W c.loop-head.invariant.1 p c.if-is_wanted_at.ensures,
         before_taken W c.loop-head.invariant.1 p,
       ),
     )
 
-pub overflow-add-head : goal.overflow-add-head
-overflow-add-head g c = let W = c.loop-head.invariant.0 in omega (arith, tail_room W, W.entries.cells)
+pub overflow_add-head : goal.overflow_add-head
+overflow_add-head g c = let W = c.loop-head.invariant.0 in omega (arith, tail_room W, W.entries.cells)
 
 pub loop-head-smaller : goal.loop-head-smaller
 loop-head-smaller g c = let W = c.loop-head.invariant.0 in omega (arith, tail_room W, W.entries.cells)
@@ -35,7 +35,7 @@ loop-head-preserved g c =
     let S = g.G.Graph.sound c.args.graph.now in
     let G = g.G.Graph.meaning c.args.graph.now in
     let p : c.loop-head.head < c.expand-tail.result = omega (arith, c.expand-tail.ensures.ahead) in
-    let b : false ≡ G.wanted (get_or c.expand-tail.new.queue c.loop-head.head 0) = rw (← c.expand-tail.ensures.same) c.if-is-wanted-at.ensures in
+    let b : false ≡ G.wanted (get_or c.expand-tail.new.queue c.loop-head.head 0) = rw (← c.expand-tail.ensures.same) c.if-is_wanted_at.ensures in
     (next_place S c.expand-tail.ensures.walked p b, omega arith)
 
 pub returns : goal.returns

@@ -2,8 +2,8 @@ use Rattle.std.proofs.Common.{sym, refl, ◌∙◌, arith}
 use Rattle.walk.proofs.Keeps.{tail_room, skip, enters, push_room, entered_ahead, entered_keeps}
 use Rattle.walk.proofs.follow.Goals as goal
 
-pub offset-bounds-queue-head : goal.offset-bounds-queue-head
-offset-bounds-queue-head g c = let W = c.requires.walked in omega (arith, tail_room W, W.entries.room)
+pub offset_bounds-queue-head : goal.offset_bounds-queue-head
+offset_bounds-queue-head g c = let W = c.requires.walked in omega (arith, tail_room W, W.entries.room)
 
 pub bounds-queue-head : goal.bounds-queue-head
 bounds-queue-head g c = let W = c.requires.walked in omega (arith, tail_room W, W.entries.room)

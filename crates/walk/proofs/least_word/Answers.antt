@@ -9,7 +9,7 @@ spell-requires g c =
     record {
       traced = (f.1.0, t);
       long = c.depth-length.ensures;
-      room = omega (arith, f.0, traced_short {links = c.first-wanted.new.links} {queue = c.first-wanted.new.queue} t, c.depth-length.ensures f.1.0 t, c.nodes-nodes.ensures, c.if-word-nodes.false);
+      room = omega (arith, f.0, traced_short {links = c.first_wanted.new.links} {queue = c.first_wanted.new.queue} t, c.depth-length.ensures f.1.0 t, c.nodes-nodes.ensures, c.if-word-nodes.false);
     }
 
 pub returns-in-Some : goal.returns-in-Some

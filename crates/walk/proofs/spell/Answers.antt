@@ -4,8 +4,8 @@ use Rattle.walk.specs.Walk.{label_of}
 use Rattle.walk.proofs.Traces.{last_link, traced_none}
 use Rattle.walk.proofs.spell.Goals as goal
 
-pub offset-bounds-queue-place : goal.offset-bounds-queue-place
-offset-bounds-queue-place c =
+pub offset_bounds-queue-place : goal.offset_bounds-queue-place
+offset_bounds-queue-place c =
     let i = c.loop-place.invariant.1 c.requires.traced.0 c.requires.traced.1 in
     let s = last_link i.1 (omega arith) in
     omega (arith, s.place)
@@ -20,8 +20,8 @@ bounds-links-queue c =
     let i = c.loop-place.invariant.1 c.requires.traced.0 c.requires.traced.1 in
     (last_link i.1 (omega arith)).node
 
-pub overflow-sub-left : goal.overflow-sub-left
-overflow-sub-left c =
+pub overflow_sub-left : goal.overflow_sub-left
+overflow_sub-left c =
     let i = c.loop-place.invariant.1 c.requires.traced.0 c.requires.traced.1 in
     let s = last_link i.1 (omega arith) in
     omega (arith, i.2, ap length s.ends, length_push s.rest)
@@ -32,8 +32,8 @@ bounds-word-left c =
     let s = last_link i.1 (omega arith) in
     omega (arith, i.2, ap length s.ends, length_push s.rest, c.requires.room)
 
-pub offset-bounds-word-left : goal.offset-bounds-word-left
-offset-bounds-word-left c = omega (arith, bounds-word-left c)
+pub offset_bounds-word-left : goal.offset_bounds-word-left
+offset_bounds-word-left c = omega (arith, bounds-word-left c)
 
 pub loop-place-smaller : goal.loop-place-smaller
 loop-place-smaller c =
@@ -54,7 +54,7 @@ loop-place-preserved c = (
       let p : k < length xs = omega (arith, n, c.loop-place.invariant.0, c.requires.room) in
       let d : drop k (set xs k a) ≡ a ∷ drop c.loop-place.left xs = drop-set xs k a p ∙ ap (λ m. a ∷ drop m xs) n in
       let j : s.rest ++ drop k (set xs k a) ≡ v ++ drop c.args.len c.args.word.now = ap (λ ys. s.rest ++ ys) d ∙ sym (append_assoc s.rest (a ∷ []) (drop c.loop-place.left xs)) ∙ ap (λ w. w ++ drop c.loop-place.left xs) (sym s.ends) ∙ i.3 in
-      rw (c.parent-place.ensures, c.label-of.ensures, s.is) (s.rest, s.traced, omega (arith, n, i.2, ap length s.ends, length_push s.rest), j),
+      rw (c.parent-place.ensures, c.label_of.ensures, s.is) (s.rest, s.traced, omega (arith, n, i.2, ap length s.ends, length_push s.rest), j),
 )
 
 pub returns : goal.returns
