@@ -8,21 +8,21 @@ pub returns-then-at-text : goal.returns-then-at-text
 returns-then-at-text c = record { is = sym (tok_past _ _ c.if-at-text.true); held = c.if-at-text.true }
 
 pub returns-in-NameStart : goal.returns-in-NameStart
-returns-in-NameStart c = record { is = class_tok _ _ _ c.if-at-text.false c.in-NameStart.ensures; held = named _ _ _ (omega arith) (c.name-end-end.ensures.inside (omega arith)) c.name-end-end.ensures.longest }
+returns-in-NameStart c = record { is = class_tok _ _ _ c.if-at-text.false c.in-NameStart.ensures; held = named _ _ _ (omega arith) (c.name_end-end.ensures.inside (omega arith)) c.name_end-end.ensures.longest }
 
-pub returns-then-is-pcdata : goal.returns-then-is-pcdata
-returns-then-is-pcdata c =
+pub returns-then-is_pcdata : goal.returns-then-is_pcdata
+returns-then-is_pcdata c =
     let t = c.args.text.now in
-    let yes' : true ≡ pcdataAt t c.args.at = c.if-is-pcdata.ensures ∙ ap (begins (codes "#PCDATA")) (take_rest t c.args.at) in
+    let yes' : true ≡ pcdataAt t c.args.at = c.if-is_pcdata.ensures ∙ ap (begins (codes "#PCDATA")) (take_rest t c.args.at) in
     record {
       is = ap (λ (v : Bool). cond v pcdata stray) yes' ∙ class_tok _ _ _ c.if-at-text.false c.in-Hash.ensures;
       held = omega (arith, begins_long (codes "#PCDATA") (drop c.args.at t) (sym yes'), length-drop c.args.at t);
     }
 
-pub returns-else-is-pcdata : goal.returns-else-is-pcdata
-returns-else-is-pcdata c =
+pub returns-else-is_pcdata : goal.returns-else-is_pcdata
+returns-else-is_pcdata c =
     let t = c.args.text.now in
-    let no' : false ≡ pcdataAt t c.args.at = c.if-is-pcdata.ensures ∙ ap (begins (codes "#PCDATA")) (take_rest t c.args.at) in
+    let no' : false ≡ pcdataAt t c.args.at = c.if-is_pcdata.ensures ∙ ap (begins (codes "#PCDATA")) (take_rest t c.args.at) in
     record {
       is = ap (λ (v : Bool). cond v pcdata stray) no' ∙ class_tok _ _ _ c.if-at-text.false c.in-Hash.ensures;
       held = c.if-at-text.false;

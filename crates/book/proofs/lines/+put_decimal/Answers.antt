@@ -14,15 +14,15 @@ returns-then-n-lt10 t c =
     put_same c.args.out.now c.put.new.out c.args.at c.put.result ((48 + n % 10) ∷ []) (decimal n)
     (ap (λ (d : ℕ). (48 + d) ∷ []) e ∙ sym (decimal_digit n c.if-n-lt10.true)) c.put.ensures
 
-pub put-decimal-last-requires : goal.put-decimal-last-requires
-put-decimal-last-requires t c = (search rules, omega (arith, c.requires, length_decimal_last c.args.n c.if-n-lt10.false (omega arith)))
+pub put_decimal-last-requires : goal.put_decimal-last-requires
+put_decimal-last-requires t c = (search rules, omega (arith, c.requires, length_decimal_last c.args.n c.if-n-lt10.false (omega arith)))
 
 pub put-requires-2 : goal.put-requires-2
 put-requires-2 t c =
-    omega (arith, c.requires, length_decimal_last c.args.n c.if-n-lt10.false (omega arith), c.put-decimal-last.ensures.ends, c.put-decimal-last.ensures.kept)
+    omega (arith, c.requires, length_decimal_last c.args.n c.if-n-lt10.false (omega arith), c.put_decimal-last.ensures.ends, c.put_decimal-last.ensures.kept)
 
 pub returns : goal.returns
 returns t c =
     let n = c.args.n in
     put_same c.args.out.now c.put-2.new.out c.args.at c.put-2.result (decimal (n / 10) ++ ((48 + n % 10) ∷ [])) (decimal n) (sym (decimal_step n c.if-n-lt10.false (omega arith)))
-    (put_put c.args.out.now c.put-decimal-last.new.out c.put-2.new.out c.args.at c.put-decimal-last.result c.put-2.result (decimal (n / 10)) ((48 + n % 10) ∷ []) c.put-decimal-last.ensures c.put-2.ensures)
+    (put_put c.args.out.now c.put_decimal-last.new.out c.put-2.new.out c.args.at c.put_decimal-last.result c.put-2.result (decimal (n / 10)) ((48 + n % 10) ∷ []) c.put_decimal-last.ensures c.put-2.ensures)

@@ -6,8 +6,8 @@ use Rattle.book.proofs.Laid.{length-entries, length-book}
 use Rattle.book.proofs.Written.{put_put, put_same, content, entries_more, length-contents, length_together_more, together_most, contents_all}
 use Rattle.book.proofs.making.put_entries.Goals as goal
 
-pub put-entry-end-requires : goal.put-entry-end-requires
-put-entry-end-requires c =
+pub put_entry-end-requires : goal.put_entry-end-requires
+put_entry-end-requires c =
     let bodies = c.args.bodies.now in
     let i = c.loop-body.body-index in
     let n = length-contents bodies in
@@ -22,8 +22,8 @@ put-entry-end-requires c =
       size = omega (arith, c.requires.short);
     }
 
-pub overflow-add-offset-in-loop-body : goal.overflow-add-offset-in-loop-body
-overflow-add-offset-in-loop-body c =
+pub overflow_add-offset-in-loop-body : goal.overflow_add-offset-in-loop-body
+overflow_add-offset-in-loop-body c =
     let bodies = c.args.bodies.now in
     let i = c.loop-body.body-index in
     let book = length-book (contents bodies) in
@@ -39,9 +39,9 @@ loop-body-preserved c =
     let before = entries_from from (take i (contents bodies)) in
     let body = content bodies i c.loop-body-test.true in
     let more = length_together_more bodies i c.loop-body-test.true in (
-      put_same c.args.out.now c.put-entry-end.new.out c.args.at c.put-entry-end.result _ _
+      put_same c.args.out.now c.put_entry-end.new.out c.args.at c.put_entry-end.result _ _
           (ap (λ (n : ℕ). before ++ (two_bytes n ++ two_bytes (length body))) c.loop-body.invariant.1 ∙ sym (entries_more bodies i c.loop-body-test.true from))
-          (put_put c.args.out.now c.loop-body.out c.put-entry-end.new.out c.args.at c.loop-body.end c.put-entry-end.result before (two_bytes c.loop-body.offset ++ two_bytes (length body)) c.loop-body.invariant.0 c.put-entry-end.ensures),
+          (put_put c.args.out.now c.loop-body.out c.put_entry-end.new.out c.args.at c.loop-body.end c.put_entry-end.result before (two_bytes c.loop-body.offset ++ two_bytes (length body)) c.loop-body.invariant.0 c.put_entry-end.ensures),
       omega (arith, c.loop-body.invariant.1),
     )
 

@@ -7,8 +7,8 @@ returns c =
     let xs = c.args.out.now in
     let at = c.args.at in
     let bs = c.args.bytes.now in
-    let ys = c.copy-from-slice.new.self in
-    let e : ys ≡ bs = c.copy-from-slice.ensures.after in
+    let ys = c.copy_from_slice.new.self in
+    let e : ys ≡ bs = c.copy_from_slice.ensures.after in
     let l : length ys ≡ length bs = ap length e in
     record {
       ends = refl;

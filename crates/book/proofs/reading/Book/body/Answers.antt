@@ -11,11 +11,11 @@ returns-then-at-bytes c =
     let n : Holds bytes k → ⊥ = λ h. omega (arith, h.1, c.if-at-bytes.true) in
     record { given = n; book = λ bodies b. book_no_body bytes bodies b k n }
 
-pub returns-in-default : goal.returns-in-default
-returns-in-default c =
+pub returns-in_default : goal.returns-in_default
+returns-in_default c =
     let bytes = c.args.self.now.bytes.now in
     let k = c.args.k in
-    let n : Holds bytes k → ⊥ = λ h. omega (arith, h.1, c.in-default.ensures, ap length (take_rest bytes (1 + 4 * k)), length-drop (1 + 4 * k) bytes) in
+    let n : Holds bytes k → ⊥ = λ h. omega (arith, h.1, c.in_default.ensures, ap length (take_rest bytes (1 + 4 * k)), length-drop (1 + 4 * k) bytes) in
     record { given = n; book = λ bodies b. book_no_body bytes bodies b k n }
 
 pub returns-then-end-bytes : goal.returns-then-end-bytes

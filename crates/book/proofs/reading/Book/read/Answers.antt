@@ -14,17 +14,17 @@ loop-k-init c =
       omega arith,
     )
 
-pub returns-in-default-first-entry : goal.returns-in-default-first-entry
-returns-in-default-first-entry c =
+pub returns-in_default-first_entry : goal.returns-in_default-first_entry
+returns-in_default-first_entry c =
     let bytes = c.args.bytes.now in
     let k = c.loop-k.k in
     let n = c.from-count.ensures in
     let low : k < count_in bytes = omega (arith, n, c.loop-k-test.true) in
-    let counted : Counted bytes = (omega (arith, n, c.if-count-lt1.false), omega (arith, n, c.if-count-gt-MOST-BODIES.false)) in
-    inr (c.if-bytes-gt-MOST-BYTES.false, (k, refl, inr (inl (counted, front_cut bytes k c.loop-k.entries.now c.loop-k.start c.loop-k.invariant.0 low c.in-default-first-entry.ensures))))
+    let counted : Counted bytes = (omega (arith, n, c.if-count-lt1.false), omega (arith, n, c.if-count-gt-MOST_BODIES.false)) in
+    inr (c.if-bytes-gt-MOST_BYTES.false, (k, refl, inr (inl (counted, front_cut bytes k c.loop-k.entries.now c.loop-k.start c.loop-k.invariant.0 low c.in_default-first_entry.ensures))))
 
-pub overflow-add-start-else-entry-start : goal.overflow-add-start-else-entry-start
-overflow-add-start-else-entry-start c = omega (arith, c.loop-k.invariant.1, c.in-Some.ensures.2)
+pub overflow_add-start-else-entry-start : goal.overflow_add-start-else-entry-start
+overflow_add-start-else-entry-start c = omega (arith, c.loop-k.invariant.1, c.in-Some.ensures.2)
 
 pub returns-then-entry-start : goal.returns-then-entry-start
 returns-then-entry-start c =
@@ -32,11 +32,11 @@ returns-then-entry-start c =
     let k = c.loop-k.k in
     let n = c.from-count.ensures in
     let low : k < count_in bytes = omega (arith, n, c.loop-k-test.true) in
-    let counted : Counted bytes = (omega (arith, n, c.if-count-lt1.false), omega (arith, n, c.if-count-gt-MOST-BODIES.false)) in
+    let counted : Counted bytes = (omega (arith, n, c.if-count-lt1.false), omega (arith, n, c.if-count-gt-MOST_BODIES.false)) in
     let entry = c.in-Some.entry in
     let e = c.in-Some.ensures.0 in
     inr (
-      c.if-bytes-gt-MOST-BYTES.false,
+      c.if-bytes-gt-MOST_BYTES.false,
       (
         k,
         refl,
@@ -55,7 +55,7 @@ loop-k-preserved c =
     let bytes = c.args.bytes.now in
     let entry = c.in-Some.entry in (
       front_more bytes c.loop-k.k c.loop-k.entries.now c.loop-k.start c.loop-k.invariant.0 entry.offset entry.size c.in-Some.others.now c.in-Some.ensures.0 c.if-entry-start.false c.if-start-entry.false,
-      omega (arith, c.if-start-entry.false, c.if-bytes-gt-MOST-BYTES.false),
+      omega (arith, c.if-start-entry.false, c.if-bytes-gt-MOST_BYTES.false),
     )
 
 pub returns : goal.returns
@@ -64,4 +64,4 @@ returns c =
     let n = c.from-count.ensures in
     let all : c.loop-k.k ≡ count_in bytes = omega (arith, n, c.loop-k-test.false) in
     let front : Front bytes (count_in bytes) c.loop-k.entries.now c.loop-k.start = subst (λ (k : ℕ). Front bytes k c.loop-k.entries.now c.loop-k.start) all c.loop-k.invariant.0 in
-    (refl, front_all bytes c.loop-k.entries.now c.loop-k.start front c.if-start-bytes.false (omega (arith, n, c.if-count-lt1.false)) (omega (arith, n, c.if-count-gt-MOST-BODIES.false)) c.if-bytes-gt-MOST-BYTES.false)
+    (refl, front_all bytes c.loop-k.entries.now c.loop-k.start front c.if-start-bytes.false (omega (arith, n, c.if-count-lt1.false)) (omega (arith, n, c.if-count-gt-MOST_BODIES.false)) c.if-bytes-gt-MOST_BYTES.false)
