@@ -13,7 +13,7 @@ returns-then-same g c =
     let xs = c.args.symbols.now in
     let y = c.loop-y.y in
     let lt : y < length xs = omega arith in
-    step_some same c.args.sets c.args.followers.now xs c.args.state c.args.symbol.now c.next-set-next.result c.next-set-next.ensures
+    step_some same c.args.sets c.args.followers.now xs c.args.state c.args.symbol.now c.next_set-next.result c.next_set-next.ensures
     y c.loop-y.invariant (eqb-true _ 1 (sym c.if-has.ensures))
     (like_is same xs y c.args.symbol.now _ lt c.index-symbols-y.is ∙ sym c.if-same.ensures)
 
@@ -21,7 +21,7 @@ pub loop-y-preserved : goal.loop-y-preserved
 loop-y-preserved g c k l b h =
     ⊎_elim (λ l. c.loop-y.invariant k l b h)
     (λ ge. let e : k ≡ c.loop-y.y = omega arith in
-    let set = subst (Bit c.next-set-next.result) e b in
+    let set = subst (Bit c.next_set-next.result) e b in
     let agrees = subst (λ i. like g.S.Symbol.same (symbol_at c.args.symbols.now (i + 1)) c.args.symbol.now ≡ true) e h in
     let lt : c.loop-y.y < length c.args.symbols.now = omega arith in
     elim c.else-has.branch [
@@ -34,4 +34,4 @@ loop-y-preserved g c k l b h =
 pub returns : goal.returns
 returns g c =
     step_none g.S.Symbol.same c.args.sets c.args.followers.now c.args.symbols.now c.args.state c.args.symbol.now
-    c.next-set-next.result c.next-set-next.ensures c.loop-y.y c.loop-y.invariant c.next-set-next.type-inv (omega arith)
+    c.next_set-next.result c.next_set-next.ensures c.loop-y.y c.loop-y.invariant c.next_set-next.type_inv (omega arith)

@@ -26,17 +26,17 @@ returns-in-None g c m t =
     stuck_longest same m t.formed g.S.Symbol.laws t.clear c.args.word.now c.loop-i.i c.loop-i.state a c.loop-i-test.true c.index-word-i.is v.0
     (λ y p. c.in-None.ensures y (goes_may same c.args.sets c.args.followers.now c.args.symbols.now m t c.loop-i.state y a v.1 p))
 
-pub returns-then-may-end : goal.returns-then-may-end
-returns-then-may-end g c m t =
+pub returns-then-may_end : goal.returns-then-may_end
+returns-then-may_end g c m t =
     let same = g.S.Symbol.same in
     let v = c.loop-i.invariant m t in
     let w = c.args.word.now in
     let x = c.loop-i.state in
     leads_word same m t.formed w x (leads_all same m w c.loop-i.i x (omega arith) v.0)
-    (ends_end same c.args.sets c.args.followers.now c.args.symbols.now m t x v.1 (sym c.if-may-end.ensures))
+    (ends_end same c.args.sets c.args.followers.now c.args.symbols.now m t x v.1 (sym c.if-may_end.ensures))
 
-pub returns-else-may-end : goal.returns-else-may-end
-returns-else-may-end g c m t =
+pub returns-else-may_end : goal.returns-else-may_end
+returns-else-may_end g c m t =
     let same = g.S.Symbol.same in
     let laws = g.S.Symbol.laws in
     let v = c.loop-i.invariant m t in
@@ -44,6 +44,6 @@ returns-else-may-end g c m t =
     let x = c.loop-i.state in
     let l = leads_all same m w c.loop-i.i x (omega arith) v.0 in (
       ends_not same m t.formed laws t.clear w x l
-          (λ e. both_ways (mayEnd c.args.sets x) (sym c.if-may-end.ensures) (end_ends same c.args.sets c.args.followers.now c.args.symbols.now m t x v.1 e)),
+          (λ e. both_ways (mayEnd c.args.sets x) (sym c.if-may_end.ensures) (end_ends same c.args.sets c.args.followers.now c.args.symbols.now m t x v.1 e)),
       whole_longest same m t.formed laws t.clear w x l,
     )

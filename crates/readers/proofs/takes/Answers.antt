@@ -24,5 +24,5 @@ returns g c =
     let t = g.R.Reader.table c.args.reader.now in
     let w = c.args.word.now in
     Decides-at _ (takes t w)
-    (c.is-ending.ensures ∙ sym (at_drop_all (ends_from t c.loop-symbol.state) w c.loop-symbol.symbol-index c.loop-symbol-test.false) ∙ c.loop-symbol.invariant)
+    (c.is_ending.ensures ∙ sym (at_drop_all (ends_from t c.loop-symbol.state) w c.loop-symbol.symbol-index c.loop-symbol-test.false) ∙ c.loop-symbol.invariant)
     (takes_decides t w)

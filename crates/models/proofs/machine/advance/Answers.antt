@@ -15,8 +15,8 @@ returns-in-0 c =
     record {
       bounds = bounds_at c.args.tally t (length rs) c.counted.result c.counted.ensures (omega arith) (omega arith);
       made = λ s k m.
-          made_at (length rs) c.args.code 0 u t c.counted.result s c.push-empty.new.parts rs c.in-0.is c.counted.ensures
-          (empty_advanced ps c.push-empty.new.parts rs d u c.push-empty.ensures s k m);
+          made_at (length rs) c.args.code 0 u t c.counted.result s c.push_empty.new.parts rs c.in-0.is c.counted.ensures
+          (empty_advanced ps c.push_empty.new.parts rs d u c.push_empty.ensures s k m);
     }
 
 pub returns-in-1 : goal.returns-in-1
@@ -29,8 +29,8 @@ returns-in-1 c =
     record {
       bounds = bounds_at c.args.tally t (length rs) c.counted-in-1.result c.counted-in-1.ensures (omega arith) (omega arith);
       made = λ s k m.
-          made_at (length rs) c.args.code 1 u t c.counted-in-1.result s c.push-position.new.parts rs c.in-1.is c.counted-in-1.ensures
-          (leaf_advanced ps c.push-position.new.parts rs (length rs) d u (omega arith) c.push-position.ensures s k m);
+          made_at (length rs) c.args.code 1 u t c.counted-in-1.result s c.push_position.new.parts rs c.in-1.is c.counted-in-1.ensures
+          (leaf_advanced ps c.push_position.new.parts rs (length rs) d u (omega arith) c.push_position.ensures s k m);
     }
 
 pub returns-in-2 : goal.returns-in-2
@@ -43,8 +43,8 @@ returns-in-2 c =
     record {
       bounds = bounds_at c.args.tally t (length rs) c.counted-in-2.result c.counted-in-2.ensures (omega arith) (omega arith);
       made = λ s k m.
-          made_at (length rs) c.args.code 2 u t c.counted-in-2.result s c.join-then.new.parts c.join-then.new.rows c.in-2.is c.counted-in-2.ensures
-          (binary_advanced then ps c.join-then.new.parts rs c.join-then.new.rows d u (omega arith) c.join-then.ensures.stack c.join-then.ensures.rows s k m);
+          made_at (length rs) c.args.code 2 u t c.counted-in-2.result s c.join_then.new.parts c.join_then.new.rows c.in-2.is c.counted-in-2.ensures
+          (binary_advanced then ps c.join_then.new.parts rs c.join_then.new.rows d u (omega arith) c.join_then.ensures.stack c.join_then.ensures.rows s k m);
     }
 
 pub returns-in-3 : goal.returns-in-3
@@ -57,8 +57,8 @@ returns-in-3 c =
     record {
       bounds = bounds_at c.args.tally t (length rs) c.counted-in-3.result c.counted-in-3.ensures (omega arith) (omega arith);
       made = λ s k m.
-          made_at (length rs) c.args.code 3 u t c.counted-in-3.result s c.join-either.new.parts rs c.in-3.is c.counted-in-3.ensures
-          (binary_advanced either ps c.join-either.new.parts rs rs d u (omega arith) c.join-either.ensures (λ l r t a b. rows_either rs l r t b) s k m);
+          made_at (length rs) c.args.code 3 u t c.counted-in-3.result s c.join_either.new.parts rs c.in-3.is c.counted-in-3.ensures
+          (binary_advanced either ps c.join_either.new.parts rs rs d u (omega arith) c.join_either.ensures (λ l r t a b. rows_either rs l r t b) s k m);
     }
 
 pub returns-in-4 : goal.returns-in-4
@@ -70,8 +70,8 @@ returns-in-4 c =
     record {
       bounds = bounds_at c.args.tally c.args.tally (length rs) (Some c.args.tally) refl (omega arith) (omega arith);
       made = λ s k m.
-          made_at (length rs) c.args.code 4 u c.args.tally (Some c.args.tally) s c.make-optional.new.parts rs c.in-4.is refl
-          (unary_advanced maybe ps c.make-optional.new.parts rs rs d u (omega arith) c.make-optional.ensures (λ e t a b. rows_maybe rs e t b) s k m);
+          made_at (length rs) c.args.code 4 u c.args.tally (Some c.args.tally) s c.make_optional.new.parts rs c.in-4.is refl
+          (unary_advanced maybe ps c.make_optional.new.parts rs rs d u (omega arith) c.make_optional.ensures (λ e t a b. rows_maybe rs e t b) s k m);
     }
 
 pub returns-in-5 : goal.returns-in-5
@@ -83,8 +83,8 @@ returns-in-5 c =
     record {
       bounds = bounds_at c.args.tally c.args.tally (length rs) (Some c.args.tally) refl (omega arith) (omega arith);
       made = λ s k m.
-          made_at (length rs) c.args.code 5 u c.args.tally (Some c.args.tally) s c.repeat-any.new.parts c.repeat-any.new.rows c.in-5.is refl
-          (unary_advanced many ps c.repeat-any.new.parts rs c.repeat-any.new.rows d u (omega arith) c.repeat-any.ensures.stack c.repeat-any.ensures.rows s k m);
+          made_at (length rs) c.args.code 5 u c.args.tally (Some c.args.tally) s c.repeat_any.new.parts c.repeat_any.new.rows c.in-5.is refl
+          (unary_advanced many ps c.repeat_any.new.parts rs c.repeat_any.new.rows d u (omega arith) c.repeat_any.ensures.stack c.repeat_any.ensures.rows s k m);
     }
 
 pub returns-in-6 : goal.returns-in-6
@@ -96,6 +96,6 @@ returns-in-6 c =
     record {
       bounds = bounds_at c.args.tally c.args.tally (length rs) (Some c.args.tally) refl (omega arith) (omega arith);
       made = λ s k m.
-          made_at (length rs) c.args.code 6 u c.args.tally (Some c.args.tally) s c.repeat-some.new.parts c.repeat-some.new.rows c.in-6.is refl
-          (unary_advanced some ps c.repeat-some.new.parts rs c.repeat-some.new.rows d u (omega arith) c.repeat-some.ensures.stack c.repeat-some.ensures.rows s k m);
+          made_at (length rs) c.args.code 6 u c.args.tally (Some c.args.tally) s c.repeat_some.new.parts c.repeat_some.new.rows c.in-6.is refl
+          (unary_advanced some ps c.repeat_some.new.parts rs c.repeat_some.new.rows d u (omega arith) c.repeat_some.ensures.stack c.repeat_some.ensures.rows s k m);
     }

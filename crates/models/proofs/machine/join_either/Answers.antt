@@ -8,5 +8,5 @@ returns c l r s k =
     let ps = c.args.parts.now in
     let d = c.args.d in
     let t = two_parts ps d l r s k in
-    stack_put ps (d - 2) (d - 1) c.of-either.result (either l r) s (omega arith) (omega arith)
-    (c.of-either.ensures l r t.0 t.1) t.2
+    stack_put ps (d - 2) (d - 1) c.of_either.result (either l r) s (omega arith) (omega arith)
+    (c.of_either.ensures l r t.0 t.1) t.2

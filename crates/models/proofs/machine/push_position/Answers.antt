@@ -5,4 +5,4 @@ use Rattle.models.proofs.machine.push_position.Goals as goal
 
 pub returns : goal.returns
 returns c s k =
-    stack_put c.args.parts.now c.args.d _ c.of-position.result (leaf (c.args.used + 1)) s refl c.requires.0 c.of-position.ensures k
+    stack_put c.args.parts.now c.args.d _ c.of_position.result (leaf (c.args.used + 1)) s refl c.requires.0 c.of_position.ensures k

@@ -29,6 +29,6 @@ loop-x-preserved g c u v l h =
     ⊎_elim (λ lt. c.loop-x.invariant u v lt h)
     (λ ge. let e : u ≡ c.loop-x.x = omega arith in
     let k = subst (λ z. Clash g.S.Symbol.same c.args.symbols.now c.args.first c.args.rows.now z v) e h in
-    c.in-default.ensures v k.within
+    c.in_default.ensures v k.within
     (clash_opposes g.S.Symbol.same c.args.symbols.now c.sharing-set.result c.args.first c.args.rows.now c.loop-x.x v c.sharing-set.ensures k))
     (cases_lt u c.loop-x.x)

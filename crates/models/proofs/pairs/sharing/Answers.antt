@@ -6,7 +6,7 @@ use Rattle.models.proofs.pairs.sharing.Goals as goal
 
 pub loop-row-init : goal.loop-row-init
 loop-row-init c =
-    let e = c.with_set.ensures ∙ ap (λ b. cond b c.args.first 0) c.has-begins.ensures in
+    let e = c.with-set.ensures ∙ ap (λ b. cond b c.args.first 0) c.has-begins.ensures in
     subst (λ a. Shares a c.args.first c.args.rows.now 0 c.args.x) (sym e) (share_none c.args.first c.args.rows.now c.args.x)
 
 pub loop-row-preserved : goal.loop-row-preserved

@@ -2,8 +2,8 @@ use Rattle.std.proofs.Common.{mul-one, mul-add, arith}
 use Rattle.tables.proofs.Limits.{held_room}
 use Rattle.readers.proofs.limit.LimitReader.states.Goals as goal
 
-pub overflow-mul-result : goal.overflow-mul-result
-overflow-mul-result g c =
+pub overflow_mul-result : goal.overflow_mul-result
+overflow_mul-result g c =
     let r = c.args.self.now in
     let s = g.R.Reader.sound r.below in
     let m = c.states-below.result in

@@ -3,15 +3,15 @@ use Rattle.std.proofs.lemmas.Nat.{div-add-mod'}
 use Rattle.tables.proofs.Limits.{held_room}
 use Rattle.readers.proofs.limit.LimitReader.step.Goals as goal
 
-pub overflow-mul-below : goal.overflow-mul-below
-overflow-mul-below g c =
+pub overflow_mul-below : goal.overflow_mul-below
+overflow_mul-below g c =
     let r = c.args.self.now in
     let s = g.R.Reader.sound r.below in
     let m = c.states-below.result in
     omega (arith, held_room m r.asked c.held.result (omega (arith, s.some, c.states-below.ensures)) (omega (arith, s.most, c.states-below.ensures)) c.held.ensures)
 
-pub overflow-mul-result : goal.overflow-mul-result
-overflow-mul-result g c =
+pub overflow_mul-result : goal.overflow_mul-result
+overflow_mul-result g c =
     let r = c.args.self.now in
     let s = g.R.Reader.sound r.below in
     let m = c.states-below.result in
@@ -19,8 +19,8 @@ overflow-mul-result g c =
     let room = held_room m r.asked c.held.result (omega (arith, s.some, c.states-below.ensures)) (omega (arith, s.most, c.states-below.ensures)) c.held.ensures in
     omega (arith, room, add-mul q 1 m, one-mul m, div-add-mod' c.args.state m)
 
-pub overflow-add-result-in-Some : goal.overflow-add-result-in-Some
-overflow-add-result-in-Some g c =
+pub overflow_add-result-in-Some : goal.overflow_add-result-in-Some
+overflow_add-result-in-Some g c =
     let r = c.args.self.now in
     let s = g.R.Reader.sound r.below in
     let m = c.states-below.result in
