@@ -12,7 +12,7 @@ returns g c =
     let xs = c.args.symbols.now in
     let work = c.args.work.now in
     let word = c.args.word.now in
-    let d : Searched (product s rows xs t) work word c.least-word.new.work c.least-word.new.word c.verdict.result = (c.least-word.result, c.verdict.ensures, c.least-word.ensures) in
+    let d : Searched (product s rows xs t) work word c.least_word.new.work c.least_word.new.word c.verdict.result = (c.least_word.result, c.verdict.ensures, c.least_word.ensures) in
     record {
       exact = d;
       says = λ m T. searched_says same g.S.Symbol.laws t (g.R.Reader.sound c.args.reader.now) c.alike.ensures s rows xs m T work word _ _ c.verdict.result d;

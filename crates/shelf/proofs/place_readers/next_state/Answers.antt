@@ -4,8 +4,8 @@ use Rattle.language.proofs.Symbols.{like_within}
 use Rattle.shelf.proofs.Reading.{step_is}
 use Rattle.shelf.proofs.place_readers.next_state.Goals as goal
 
-pub overflow-cast-result : goal.overflow-cast-result
-overflow-cast-result g c =
+pub overflow_cast-result : goal.overflow_cast-result
+overflow_cast-result g c =
     let i = like_within g.S.Symbol.same _ c.in-Some.next c.args.symbol.now c.in-Some.ensures.0.1 in
     let l = length-take c.min-positions.result c.args.symbols.now in
     omega arith

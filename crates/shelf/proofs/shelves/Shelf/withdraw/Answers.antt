@@ -12,12 +12,12 @@ returns g c =
     let records = c.args.self.now.records in
     let s = state c.args.self.now c.args.symbols.now c.args.numbers.now in
     let t = state (record { records = set records p Empty }) c.args.symbols.now c.args.numbers.now in
-    let here = (stood (room (length c.args.symbols.now) (length c.args.numbers.now) p) (is_taken (recordAt c.args.self.now p)) p c.in-ok-stand.field-0 c.in-ok-stand.ensures.exact).0 in
+    let here = (stood (room (length c.args.symbols.now) (length c.args.numbers.now) p) (is_taken (recordAt c.args.self.now p)) p c.in_ok-stand.field-0 c.in_ok-stand.ensures.exact).0 in
     let below = room_below (length c.args.symbols.now) (length c.args.numbers.now) p here in
     let long : 16 ≡ length records = search rules in
     let lt : p < length records = omega arith in
     let d : Withdraws s p (Ok tt) t = record {
-      ends = c.in-ok-stand.ensures.exact;
+      ends = c.in_ok-stand.ensures.exact;
       writes = record {
         here = get_or-set_same records p Empty Empty lt;
         others = λ q ne. get_or-set_other records p q Empty Empty ne;
