@@ -6,5 +6,5 @@ use Rattle.text_writer.proofs.draft_of.Goals as goal
 
 pub returns : goal.returns
 returns c x s =
-    drafted c.args.codes.now (map row_bytes c.args.names.now) x c.is-bare-bare.result _ c.write-part-none.result c.blank-draft.result c.push-if.new.self c.write-part-none.new.draft c.push-if-2.new.self
-    s c.is-bare-bare.ensures refl (sym (length-map c.args.names.now row_bytes)) c.blank-draft.ensures.text c.blank-draft.ensures.from c.push-if.ensures c.write-part-none.ensures.said c.push-if-2.ensures
+    drafted c.args.codes.now (map row_bytes c.args.names.now) x c.is_bare-bare.result _ c.write_part-none.result c.blank-draft.result c.push_if.new.self c.write_part-none.new.draft c.push_if-2.new.self
+    s c.is_bare-bare.ensures refl (sym (length-map c.args.names.now row_bytes)) c.blank-draft.ensures.text c.blank-draft.ensures.from c.push_if.ensures c.write_part-none.ensures.said c.push_if-2.ensures

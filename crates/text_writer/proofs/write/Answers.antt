@@ -8,42 +8,42 @@ use Rattle.text_writer.specs.Writes.{Refused, ill_formed, empty_part, no_name, t
 use Rattle.text_writer.proofs.Final.{sayable_of, finished, refused_as}
 use Rattle.text_writer.proofs.write.Goals as goal
 
-pub returns-in-err-check : goal.returns-in-err-check
-returns-in-err-check c =
-    let p = err_from_is_err_and c.from-residual.result c.from-residual.ensures.1 in
+pub returns-in_err-check : goal.returns-in_err-check
+returns-in_err-check c =
+    let p = err_from_is_err_and c.from_residual.result c.from_residual.ensures.1 in
     let n = sym (length-map c.args.names.now row_bytes) in
-    rw (p.1, p.2) (ill_formed (subst (λ (k : ℕ). checked.Refused k c.args.codes.now c.in-err-check.field-0.0) n c.in-err-check.ensures), refl)
+    rw (p.1, p.2) (ill_formed (subst (λ (k : ℕ). checked.Refused k c.args.codes.now c.in_err-check.field-0.0) n c.in_err-check.ensures), refl)
 
-pub returns-in-err-check-parts : goal.returns-in-err-check-parts
-returns-in-err-check-parts c =
-    let p = err_from_is_err_and c.from-residual-in-err-check-parts.result c.from-residual-in-err-check-parts.ensures.1 in
+pub returns-in_err-check_parts : goal.returns-in_err-check_parts
+returns-in_err-check_parts c =
+    let p = err_from_is_err_and c.from_residual-in_err-check_parts.result c.from_residual-in_err-check_parts.ensures.1 in
     let n = sym (length-map c.args.names.now row_bytes) in
-    let f = c.in-err-check-parts.ensures in
-    let w = subst (λ (k : ℕ). checked.WellFormed k c.args.codes.now) n c.in-ok-check.ensures in
+    let f = c.in_err-check_parts.ensures in
+    let w = subst (λ (k : ℕ). checked.WellFormed k c.args.codes.now) n c.in_ok-check.ensures in
     rw (p.1, p.2) (refused_as (sym f.1) (empty_part w f.2), refl)
 
-pub returns-in-err-check-names : goal.returns-in-err-check-names
-returns-in-err-check-names c =
-    let p = err_from_is_err_and c.from-residual-in-err-check-names.result c.from-residual-in-err-check-names.ensures.1 in
+pub returns-in_err-check_names : goal.returns-in_err-check_names
+returns-in_err-check_names c =
+    let p = err_from_is_err_and c.from_residual-in_err-check_names.result c.from_residual-in_err-check_names.ensures.1 in
     let n = sym (length-map c.args.names.now row_bytes) in
-    let f = c.in-err-check-names.ensures in
-    let w = subst (λ (k : ℕ). checked.WellFormed k c.args.codes.now) n c.in-ok-check.ensures in
-    rw (p.1, p.2) (refused_as (sym f.1) (no_name w c.in-ok-check-parts.ensures f.2), refl)
+    let f = c.in_err-check_names.ensures in
+    let w = subst (λ (k : ℕ). checked.WellFormed k c.args.codes.now) n c.in_ok-check.ensures in
+    rw (p.1, p.2) (refused_as (sym f.1) (no_name w c.in_ok-check_parts.ensures f.2), refl)
 
-pub returns-in-err-check-levels : goal.returns-in-err-check-levels
-returns-in-err-check-levels c =
-    let p = err_from_is_err_and c.from-residual-in-err-check-levels.result c.from-residual-in-err-check-levels.ensures.1 in
+pub returns-in_err-check_levels : goal.returns-in_err-check_levels
+returns-in_err-check_levels c =
+    let p = err_from_is_err_and c.from_residual-in_err-check_levels.result c.from_residual-in_err-check_levels.ensures.1 in
     let n = sym (length-map c.args.names.now row_bytes) in
-    let f = c.in-err-check-levels.ensures in
-    let w = subst (λ (k : ℕ). checked.WellFormed k c.args.codes.now) n c.in-ok-check.ensures in
-    let x = sayable_of c.args.codes.now (map row_bytes c.args.names.now) w c.in-ok-check-parts.ensures c.in-ok-check-names.ensures in
-    let e = c.text-text.ensures ∙ c.draft-of-draft.ensures x.0 x.1 in
+    let f = c.in_err-check_levels.ensures in
+    let w = subst (λ (k : ℕ). checked.WellFormed k c.args.codes.now) n c.in_ok-check.ensures in
+    let x = sayable_of c.args.codes.now (map row_bytes c.args.names.now) w c.in_ok-check_parts.ensures c.in_ok-check_names.ensures in
+    let e = c.text-text.ensures ∙ c.draft_of-draft.ensures x.0 x.1 in
     rw (p.1, p.2) (refused_as (sym f.1) (too_deep x.1 (subst (λ (s : List ℕ). FirstDeep s f.0) e f.2)), refl)
 
 pub returns : goal.returns
 returns c =
     let n = sym (length-map c.args.names.now row_bytes) in
-    let w = subst (λ (k : ℕ). checked.WellFormed k c.args.codes.now) n c.in-ok-check.ensures in
-    let x = sayable_of c.args.codes.now (map row_bytes c.args.names.now) w c.in-ok-check-parts.ensures c.in-ok-check-names.ensures in
-    let e = c.text-text.ensures ∙ c.draft-of-draft.ensures x.0 x.1 in
-    finished c.args.codes.now c.args.names.now x.0 c.text-text.result.now c.args.out.now c.copy-text.new.out c.copy-text.result x.1 e c.in-ok-check-levels.ensures c.copy-text.ensures
+    let w = subst (λ (k : ℕ). checked.WellFormed k c.args.codes.now) n c.in_ok-check.ensures in
+    let x = sayable_of c.args.codes.now (map row_bytes c.args.names.now) w c.in_ok-check_parts.ensures c.in_ok-check_names.ensures in
+    let e = c.text-text.ensures ∙ c.draft_of-draft.ensures x.0 x.1 in
+    finished c.args.codes.now c.args.names.now x.0 c.text-text.result.now c.args.out.now c.copy_text.new.out c.copy_text.result x.1 e c.in_ok-check_levels.ensures c.copy_text.ensures

@@ -5,8 +5,8 @@ use Rattle.symbols.specs.Rule.{IsName}
 use Rattle.symbols.specs.NameRows.{row_bytes}
 use Rattle.text_writer.proofs.checks.check_names.Goals as goal
 
-pub returns-then-not-is-name : goal.returns-then-not-is-name
-returns-then-not-is-name c =
+pub returns-then-not-is_name : goal.returns-then-not-is_name
+returns-then-not-is_name c =
     let i = c.loop-i.i in
     let rs = c.args.names.now in
     let here = get_or-map row_bytes rs i _ [] c.loop-i-test.true in (
@@ -14,7 +14,7 @@ returns-then-not-is-name c =
       refl,
       record {
         inside = simp length-map c.loop-i-test.true;
-        here = λ f. not_from_Decides c.is-name.result c.is-name.ensures c.if-not-is-name.true (subst (λ (w : List ℕ). IsName w) here f);
+        here = λ f. not_from_Decides c.is_name.result c.is_name.ensures c.if-not-is_name.true (subst (λ (w : List ℕ). IsName w) here f);
         first = c.loop-i.invariant;
       },
     )
@@ -24,7 +24,7 @@ loop-i-preserved c =
     let i = c.loop-i.i in
     let rs = c.args.names.now in
     below_more (λ k. IsName (get_or (map row_bytes rs) k [])) i c.loop-i.invariant
-    (subst (λ (w : List ℕ). IsName w) (sym (get_or-map row_bytes rs i _ [] c.loop-i-test.true)) (c.is-name.ensures.0 c.if-not-is-name.false))
+    (subst (λ (w : List ℕ). IsName w) (sym (get_or-map row_bytes rs i _ [] c.loop-i-test.true)) (c.is_name.ensures.0 c.if-not-is_name.false))
 
 pub returns : goal.returns
 returns c k h =

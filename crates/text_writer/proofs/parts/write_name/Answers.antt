@@ -13,7 +13,7 @@ returns-then-left-eq0 c = record {
 
 pub returns : goal.returns
 returns c = record {
-  said = λ cs n. name_said cs (map row_bytes c.args.names.now) n c.text.result.now c.args.left c.args.draft.now c.push-all.new.self
-      (c.text.ensures ∙ sym (get_or-map row_bytes c.args.names.now (c.args.left.names - 1) _ [] (omega arith))) c.push-all.ensures;
+  said = λ cs n. name_said cs (map row_bytes c.args.names.now) n c.text.result.now c.args.left c.args.draft.now c.push_all.new.self
+      (c.text.ensures ∙ sym (get_or-map row_bytes c.args.names.now (c.args.left.names - 1) _ [] (omega arith))) c.push_all.ensures;
   falls = omega arith;
 }

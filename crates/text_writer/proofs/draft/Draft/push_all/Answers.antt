@@ -9,5 +9,5 @@ returns c h =
     let long : length d.bytes ≡ 5890 = search rules in
     record {
       from = omega (arith, h.enough);
-      text = drop-part d.bytes c.copy-from-slice.new.self bytes (d.from - length bytes) d.from (omega arith) (omega (arith, h.inside)) c.copy-from-slice.ensures.after;
+      text = drop-part d.bytes c.copy_from_slice.new.self bytes (d.from - length bytes) d.from (omega arith) (omega (arith, h.inside)) c.copy_from_slice.ensures.after;
     }
