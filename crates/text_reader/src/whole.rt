@@ -21,7 +21,7 @@ const PCDATA_BYTES: usize = 7;
 fn is_empty(name: &[u8]) -> bool
     ensures { Decides result (name.now ≡ codes "EMPTY") }
 {
-    name == b"EMPTY"
+    name == b"EMPTY".as_slice()
 }
 
 /// A content specification.

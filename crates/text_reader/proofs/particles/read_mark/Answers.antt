@@ -6,13 +6,13 @@ use Rattle.text_reader.proofs.Steps.{again}
 use Rattle.text_reader.proofs.particles.read_mark.Goals as goal
 use Rattle.text_reader.proofs.particles.read_mark.Goals.{in-Query, in-Star, in-Plus}
 
-pub returns-in-default : goal.returns-in-default
-returns-in-default c =
-    let e = c.token-at.ensures.is in
-    ([], none (λ m k. elim k [ query_4 f _ ↦ c.in-default.not-Query (again c.token-at.result query (e ∙ f)) | star_5 f _ ↦ c.in-default.not-Star (again c.token-at.result star (e ∙ f)) | plus_6 f _ ↦ c.in-default.not-Plus (again c.token-at.result plus (e ∙ f)) ]), omega arith, c.requires, still _)
+pub returns-in_default : goal.returns-in_default
+returns-in_default c =
+    let e = c.token_at.ensures.is in
+    ([], none (λ m k. elim k [ query_4 f _ ↦ c.in_default.not-Query (again c.token_at.result query (e ∙ f)) | star_5 f _ ↦ c.in_default.not-Star (again c.token_at.result star (e ∙ f)) | plus_6 f _ ↦ c.in_default.not-Plus (again c.token_at.result plus (e ∙ f)) ]), omega arith, c.requires, still _)
 
 pub returns : goal.returns
 returns c =
-    let h : MarkTok (tok c.args.text.now c.args.at) c.match-token-at.code = elim c.match-token-at.branch [ in-Query w ↦ query_4 (sym w.in-Query.ensures.is) w.code-is | in-Star w ↦ star_5 (sym w.in-Star.ensures.is) w.code-is | in-Plus w ↦ plus_6 (sym w.in-Plus.ensures.is) w.code-is ] in
-    let i : c.args.at < length c.args.text.now = elim c.match-token-at.branch [ in-Query w ↦ w.in-Query.ensures.held | in-Star w ↦ w.in-Star.ensures.held | in-Plus w ↦ w.in-Plus.ensures.held ] in
-    (c.match-token-at.code ∷ [], one h, omega arith, omega arith, c.push.ensures)
+    let h : MarkTok (tok c.args.text.now c.args.at) c.match-token_at.code = elim c.match-token_at.branch [ in-Query w ↦ query_4 (sym w.in-Query.ensures.is) w.code-is | in-Star w ↦ star_5 (sym w.in-Star.ensures.is) w.code-is | in-Plus w ↦ plus_6 (sym w.in-Plus.ensures.is) w.code-is ] in
+    let i : c.args.at < length c.args.text.now = elim c.match-token_at.branch [ in-Query w ↦ w.in-Query.ensures.held | in-Star w ↦ w.in-Star.ensures.held | in-Plus w ↦ w.in-Plus.ensures.held ] in
+    (c.match-token_at.code ∷ [], one h, omega arith, omega arith, c.push.ensures)
