@@ -39,12 +39,12 @@ fn run(rt: &HostRuntime) -> anyhow::Result<()> {
     let mut texts = Vec::new(rt.alloc());
     for word in words.as_slice() {
         let text = word.as_bytes();
-        if text == b"--help" {
+        if text == b"--help".as_slice() {
             println!(rt; "{USAGE}")?;
             return Ok(());
         }
         if text.len() > 0 && text[0] == b'-' {
-            return Err(USAGE.into());
+            return Err(anyhow!("{USAGE}"));
         }
         texts.push(text)?;
     }

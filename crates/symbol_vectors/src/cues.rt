@@ -50,7 +50,7 @@ fn foreign(rt: HostRuntime) {
 
 #[test]
 fn written(rt: HostRuntime) {
-    assert!(rt; row(0xb0, 0x07).written().text() == b"b0.07");
-    assert!(rt; row(0x9f, 0x7e).written().text() == b"9f.7e");
-    assert!(rt; row(0x00, 0xff).written().text() == b"00.ff");
+    assert!(rt; row(0xb0, 0x07).written().text() == b"b0.07".as_slice());
+    assert!(rt; row(0x9f, 0x7e).written().text() == b"9f.7e".as_slice());
+    assert!(rt; row(0x00, 0xff).written().text() == b"00.ff".as_slice());
 }

@@ -41,9 +41,9 @@ fn makings(rt: HostRuntime) -> Result<(), Fail> {
 #[test]
 fn rows(rt: HostRuntime) {
     let mut row = NameRow::of(b"abc");
-    assert!(rt; row.text() == b"abc");
+    assert!(rt; row.text() == b"abc".as_slice());
     row.len = 0;
-    assert!(rt; row.text() == b"a");
+    assert!(rt; row.text() == b"a".as_slice());
     assert!(rt; row.same(&NameRow::of(b"a")));
     row.len = 200;
     assert!(rt; row.width() == 32);
