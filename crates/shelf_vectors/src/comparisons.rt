@@ -54,8 +54,8 @@ const CASES: &[Case] = &[
 /// A list one cell short is refused, the work list first; lists that are just long enough have the answer.
 fn compared<S: Row>(rt: &impl Abort, heap: Global, case: &Case) -> Result<(), Fail> {
     let mut desk = new_desk::<S>(heap)?;
-    desk.holds(2, case.codes, case.letters)?;
-    desk.holds(11, case.other_codes, case.other_letters)?;
+    desk.holds(rt, 2, case.codes, case.letters)?;
+    desk.holds(rt, 11, case.other_codes, case.other_letters)?;
     let reader = desk.reader(11);
     let pairs = case.pairs;
     assert!(rt; pairs >= 1 && pairs <= 256);
@@ -67,11 +67,11 @@ fn compared<S: Row>(rt: &impl Abort, heap: Global, case: &Case) -> Result<(), Fa
         layer: Layer::Compare,
         cells: pairs,
     };
-    desk.refuses_lists(2, &reader, 2 * pairs - 1, pairs - 1, work_short)?;
-    desk.refuses_lists(2, &reader, 2 * pairs, pairs - 1, word_short)?;
+    desk.refuses_lists(rt, 2, &reader, 2 * pairs - 1, pairs - 1, work_short)?;
+    desk.refuses_lists(rt, 2, &reader, 2 * pairs, pairs - 1, word_short)?;
     match case.missed {
-        None => desk.includes(2, &reader, pairs),
-        Some(positions) => desk.misses(2, &reader, pairs, positions),
+        None => desk.includes(rt, 2, &reader, pairs),
+        Some(positions) => desk.misses(rt, 2, &reader, pairs, positions),
     }
 }
 
@@ -92,58 +92,58 @@ fn cues(rt: HostRuntime) -> Result<(), Fail> {
 }
 
 /// `(a,x-t,b)` in skip over `(a,b)`: included.
-fn skipped<S: Row>(heap: Global) -> Result<(), Fail> {
+fn skipped<S: Row>(rt: &impl Abort, heap: Global) -> Result<(), Fail> {
     let mut desk = new_desk::<S>(heap)?;
-    desk.holds(0, &[1, 1, 2, 1, 2], b"axb")?;
-    desk.holds(1, &[1, 1, 2], b"ab")?;
+    desk.holds(rt, 0, &[1, 1, 2, 1, 2], b"axb")?;
+    desk.holds(rt, 1, &[1, 1, 2], b"ab")?;
     let skip = Skip::new(desk.reader(1));
-    desk.includes(0, &skip, 16)
+    desk.includes(rt, 0, &skip, 16)
 }
 
 /// `(a*)` in limit 2 over itself, which has 6 states: 14 pairs, and a a a, position 1 thrice.
-fn limited<S: Row>(heap: Global) -> Result<(), Fail> {
+fn limited<S: Row>(rt: &impl Abort, heap: Global) -> Result<(), Fail> {
     let mut desk = new_desk::<S>(heap)?;
-    desk.holds(7, &[1, 5], b"a")?;
+    desk.holds(rt, 7, &[1, 5], b"a")?;
     let limit = Limit::new(desk.reader(7), 2);
     let short = Fault::ShortList {
         layer: Layer::Compare,
         cells: 28,
     };
-    desk.refuses_lists(7, &limit, 27, 14, short)?;
-    desk.misses(7, &limit, 14, &[1, 1, 1])
+    desk.refuses_lists(rt, 7, &limit, 27, 14, short)?;
+    desk.misses(rt, 7, &limit, 14, &[1, 1, 1])
 }
 
 /// `(a)` beside an empty place, whose reader takes nothing: a.
-fn beside_nothing<S: Row>(heap: Global) -> Result<(), Fail> {
+fn beside_nothing<S: Row>(rt: &impl Abort, heap: Global) -> Result<(), Fail> {
     let mut desk = new_desk::<S>(heap)?;
-    desk.holds(7, &[1], b"a")?;
+    desk.holds(rt, 7, &[1], b"a")?;
     let nothing = desk.reader(8);
-    desk.misses(7, &nothing, 4, &[1])
+    desk.misses(rt, 7, &nothing, 4, &[1])
 }
 
 /// An empty place and no place are refused before the lists are looked at.
-fn nothing_to_compare<S: Row>(heap: Global) -> Result<(), Fail> {
+fn nothing_to_compare<S: Row>(rt: &impl Abort, heap: Global) -> Result<(), Fail> {
     let mut desk = new_desk::<S>(heap)?;
-    desk.holds(7, &[1], b"a")?;
+    desk.holds(rt, 7, &[1], b"a")?;
     let reader = desk.reader(7);
-    desk.refuses_lists(8, &reader, 0, 0, Fault::Vacant { place: 8 })?;
-    desk.refuses_lists(16, &reader, 0, 0, Fault::NoPlace { place: 16 })
+    desk.refuses_lists(rt, 8, &reader, 0, 0, Fault::Vacant { place: 8 })?;
+    desk.refuses_lists(rt, 16, &reader, 0, 0, Fault::NoPlace { place: 16 })
 }
 
 #[test]
 fn layered_names(rt: HostRuntime) -> Result<(), Fail> {
-    skipped::<NameRow>(rt.alloc())?;
-    limited::<NameRow>(rt.alloc())?;
-    beside_nothing::<NameRow>(rt.alloc())?;
-    nothing_to_compare::<NameRow>(rt.alloc())
+    skipped::<NameRow>(&rt, rt.alloc())?;
+    limited::<NameRow>(&rt, rt.alloc())?;
+    beside_nothing::<NameRow>(&rt, rt.alloc())?;
+    nothing_to_compare::<NameRow>(&rt, rt.alloc())
 }
 
 #[test]
 fn layered_cues(rt: HostRuntime) -> Result<(), Fail> {
-    skipped::<CueRow>(rt.alloc())?;
-    limited::<CueRow>(rt.alloc())?;
-    beside_nothing::<CueRow>(rt.alloc())?;
-    nothing_to_compare::<CueRow>(rt.alloc())
+    skipped::<CueRow>(&rt, rt.alloc())?;
+    limited::<CueRow>(&rt, rt.alloc())?;
+    beside_nothing::<CueRow>(&rt, rt.alloc())?;
+    nothing_to_compare::<CueRow>(&rt, rt.alloc())
 }
 
 /// `(a,B)` and `(A,b)`: the same words of cues, on other channels; as names, `a B` is missed.
@@ -151,13 +151,13 @@ fn layered_cues(rt: HostRuntime) -> Result<(), Fail> {
 fn channels(rt: HostRuntime) -> Result<(), Fail> {
     let heap = rt.alloc();
     let mut cues = new_desk::<CueRow>(heap)?;
-    cues.holds(0, &[1, 1, 2], b"aB")?;
-    cues.holds(1, &[1, 1, 2], b"Ab")?;
+    cues.holds(&rt, 0, &[1, 1, 2], b"aB")?;
+    cues.holds(&rt, 1, &[1, 1, 2], b"Ab")?;
     let reader = cues.reader(1);
-    cues.includes(0, &reader, 12)?;
+    cues.includes(&rt, 0, &reader, 12)?;
     let mut names = new_desk::<NameRow>(heap)?;
-    names.holds(0, &[1, 1, 2], b"aB")?;
-    names.holds(1, &[1, 1, 2], b"Ab")?;
+    names.holds(&rt, 0, &[1, 1, 2], b"aB")?;
+    names.holds(&rt, 1, &[1, 1, 2], b"Ab")?;
     let reader = names.reader(1);
-    names.misses(0, &reader, 12, &[1, 2])
+    names.misses(&rt, 0, &reader, 12, &[1, 2])
 }

@@ -7,6 +7,7 @@ use product::Compared;
 use readers::Reader;
 use shelf::{PlaceReader, Shelf};
 use std::alloc::{AllocError, Global};
+use std::process::Abort;
 use std::test::*;
 use symbols::Symbol;
 
@@ -253,8 +254,14 @@ impl<S: Row> Desk<S> {
     }
 
     /// Loads a model, which must be done.
-    pub fn holds(&mut self, place: usize, codes: &[u8], letters: &[u8]) -> Result<(), Fail> {
-        assert_eq!(self.load(place, codes, letters)?, Ok(()));
+    pub fn holds(
+        &mut self,
+        rt: &impl Abort,
+        place: usize,
+        codes: &[u8],
+        letters: &[u8],
+    ) -> Result<(), Fail> {
+        assert_eq!(rt; self.load(place, codes, letters)?, Ok(()));
         Ok(())
     }
 
@@ -262,54 +269,68 @@ impl<S: Row> Desk<S> {
     /// cell changes.
     pub fn loads(
         &mut self,
+        rt: &impl Abort,
         place: usize,
         codes: &[u8],
         letters: &[u8],
         followers: &[u64],
     ) -> Result<(), Fail> {
         let before = self.lists()?;
-        self.holds(place, codes, letters)?;
-        assert!(place < 16);
-        assert!(letters.len() <= 64);
-        assert!(followers.len() == letters.len());
+        self.holds(rt, place, codes, letters)?;
+        assert!(rt; place < 16);
+        assert!(rt; letters.len() <= 64);
+        assert!(rt; followers.len() == letters.len());
         let from = place * 64;
-        assert!(symbols_are(self.symbols.as_slice(), from, letters));
-        assert!(numbers_are(self.numbers.as_slice(), from, followers));
-        assert!(self.kept_beside(&before, from, from + letters.len()));
+        assert!(rt; symbols_are(self.symbols.as_slice(), from, letters));
+        assert!(rt; numbers_are(self.numbers.as_slice(), from, followers));
+        assert!(rt; self.kept_beside(&before, from, from + letters.len()));
         Ok(())
     }
 
     /// Loads a model, which must be refused: no cell changes.
     pub fn refuses(
         &mut self,
+        rt: &impl Abort,
         place: usize,
         codes: &[u8],
         letters: &[u8],
         fault: Fault,
     ) -> Result<(), Fail> {
         let before = self.lists()?;
-        assert_eq!(self.load(place, codes, letters)?, Err(fault));
-        assert!(self.kept(&before));
+        assert_eq!(rt; self.load(place, codes, letters)?, Err(fault));
+        assert!(rt; self.kept(&before));
         Ok(())
     }
 
     /// Withdraws a model, which must be done: no cell changes.
-    pub fn leaves(&mut self, place: usize) -> Result<(), Fail> {
+    pub fn leaves(&mut self, rt: &impl Abort, place: usize) -> Result<(), Fail> {
         let before = self.lists()?;
-        assert_eq!(self.withdraw(place), Ok(()));
-        assert!(self.kept(&before));
+        assert_eq!(rt; self.withdraw(place), Ok(()));
+        assert!(rt; self.kept(&before));
         Ok(())
     }
 
     /// Tries a word that must have this answer.
-    pub fn tells(&self, place: usize, letters: &[u8], expected: Trial) -> Result<(), Fail> {
-        assert_eq!(self.trial(place, letters)?, Ok(expected));
+    pub fn tells(
+        &self,
+        rt: &impl Abort,
+        place: usize,
+        letters: &[u8],
+        expected: Trial,
+    ) -> Result<(), Fail> {
+        assert_eq!(rt; self.trial(place, letters)?, Ok(expected));
         Ok(())
     }
 
     /// Tries a word, which must be refused.
-    pub fn refuses_trial(&self, place: usize, letters: &[u8], fault: Fault) -> Result<(), Fail> {
-        assert_eq!(self.trial(place, letters)?, Err(fault));
+    pub fn refuses_trial(
+        &self,
+        rt: &impl Abort,
+        place: usize,
+        letters: &[u8],
+        fault: Fault,
+    ) -> Result<(), Fail> {
+        assert_eq!(rt; self.trial(place, letters)?, Err(fault));
         Ok(())
     }
 
@@ -336,6 +357,7 @@ impl<S: Row> Desk<S> {
     /// were.
     fn compares<R: Reader<S>>(
         &self,
+        rt: &impl Abort,
         place: usize,
         reader: &R,
         work: &mut [u32],
@@ -343,22 +365,24 @@ impl<S: Row> Desk<S> {
         expected: Compared,
         positions: &[u16],
     ) -> Result<(), Fail> {
-        assert_eq!(self.compare(place, reader, work, word), Ok(expected));
-        assert!(told(word, positions));
+        assert_eq!(rt; self.compare(place, reader, work, word), Ok(expected));
+        assert!(rt; told(word, positions));
         Ok(())
     }
 
     /// Compares a place with a reader that must take all its words, over lists that are just long enough for so many pairs of states.
     pub fn includes<R: Reader<S>>(
         &self,
+        rt: &impl Abort,
         place: usize,
         reader: &R,
         pairs: usize,
     ) -> Result<(), Fail> {
         let mut work = [WORK; 512];
         let mut word = [MARK; 256];
-        assert!(pairs <= 256);
+        assert!(rt; pairs <= 256);
         self.compares(
+            rt,
             place,
             reader,
             &mut work[0..2 * pairs],
@@ -371,6 +395,7 @@ impl<S: Row> Desk<S> {
     /// Compares a place with a reader that must miss a word, the least by these positions, over such lists.
     pub fn misses<R: Reader<S>>(
         &self,
+        rt: &impl Abort,
         place: usize,
         reader: &R,
         pairs: usize,
@@ -378,11 +403,12 @@ impl<S: Row> Desk<S> {
     ) -> Result<(), Fail> {
         let mut work = [WORK; 512];
         let mut word = [MARK; 256];
-        assert!(pairs <= 256);
+        assert!(rt; pairs <= 256);
         let expected = Compared::Missed {
             length: positions.len(),
         };
         self.compares(
+            rt,
             place,
             reader,
             &mut work[0..2 * pairs],
@@ -395,21 +421,23 @@ impl<S: Row> Desk<S> {
     /// Compares over these lists, which must be refused: no cell changes.
     fn refuses_over<R: Reader<S>>(
         &self,
+        rt: &impl Abort,
         place: usize,
         reader: &R,
         work: &mut [u32],
         word: &mut [u16],
         fault: Fault,
     ) -> Result<(), Fail> {
-        assert_eq!(self.compare(place, reader, work, word), Err(fault));
-        assert!(work_kept(work));
-        assert!(told(word, &[]));
+        assert_eq!(rt; self.compare(place, reader, work, word), Err(fault));
+        assert!(rt; work_kept(work));
+        assert!(rt; told(word, &[]));
         Ok(())
     }
 
     /// Compares a place with a reader over lists of so many cells, which must be refused: no cell changes.
     pub fn refuses_lists<R: Reader<S>>(
         &self,
+        rt: &impl Abort,
         place: usize,
         reader: &R,
         work_cells: usize,
@@ -418,9 +446,10 @@ impl<S: Row> Desk<S> {
     ) -> Result<(), Fail> {
         let mut work = [WORK; 512];
         let mut word = [MARK; 256];
-        assert!(work_cells <= 512);
-        assert!(word_cells <= 256);
+        assert!(rt; work_cells <= 512);
+        assert!(rt; word_cells <= 256);
         self.refuses_over(
+            rt,
             place,
             reader,
             &mut work[0..work_cells],
@@ -432,14 +461,15 @@ impl<S: Row> Desk<S> {
     /// Compares over these lists, which must have some answer, and change no cell of the word list from `pairs` on.
     fn answers_over<R: Reader<S>>(
         &self,
+        rt: &impl Abort,
         place: usize,
         reader: &R,
         work: &mut [u32],
         word: &mut [u16],
         pairs: usize,
     ) -> Result<(), Fail> {
-        assert!(self.compare(place, reader, work, word).is_ok());
-        assert!(behind_kept(word, pairs));
+        assert!(rt; self.compare(place, reader, work, word).is_ok());
+        assert!(rt; behind_kept(word, pairs));
         Ok(())
     }
 
@@ -447,12 +477,13 @@ impl<S: Row> Desk<S> {
     /// it doesn't need.
     pub fn answers<R: Reader<S>>(
         &self,
+        rt: &impl Abort,
         place: usize,
         reader: &R,
         pairs: usize,
     ) -> Result<(), Fail> {
         let mut work = [WORK; 512];
         let mut word = [MARK; 256];
-        self.answers_over(place, reader, &mut work, &mut word, pairs)
+        self.answers_over(rt, place, reader, &mut work, &mut word, pairs)
     }
 }

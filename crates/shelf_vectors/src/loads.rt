@@ -39,7 +39,7 @@ fn done<S: Row>(rt: &impl Abort, heap: Global) -> Result<(), Fail> {
     let mut desk = new_desk::<S>(heap)?;
     for (i, load) in LOADS.iter().enumerate() {
         assert!(rt; i < 13);
-        desk.loads(i + 3, load.codes, load.letters, load.followers)?;
+        desk.loads(rt, i + 3, load.codes, load.letters, load.followers)?;
     }
     Ok(())
 }
@@ -77,9 +77,9 @@ fn sequence_followers() -> [u64; 64] {
 fn whole_places(rt: HostRuntime) -> Result<(), Fail> {
     let heap = rt.alloc();
     let mut desk = new_desk::<CueRow>(heap)?;
-    desk.loads(0, &sequence(), &[b'a'; 64], &sequence_followers())?;
-    desk.loads(15, &sequence(), &[b'b'; 64], &sequence_followers())?;
-    desk.loads(14, &[1, 4], b"a", &[0])
+    desk.loads(&rt, 0, &sequence(), &[b'a'; 64], &sequence_followers())?;
+    desk.loads(&rt, 15, &sequence(), &[b'b'; 64], &sequence_followers())?;
+    desk.loads(&rt, 14, &[1, 4], b"a", &[0])
 }
 
 /// 640 empty words, 639 `then`, and a '?'.
@@ -96,5 +96,5 @@ fn empty_codes() -> [u8; 1280] {
 #[test]
 fn most_codes(rt: HostRuntime) -> Result<(), Fail> {
     let mut desk = new_desk::<NameRow>(rt.alloc())?;
-    desk.loads(2, &empty_codes(), b"", &[])
+    desk.loads(&rt, 2, &empty_codes(), b"", &[])
 }

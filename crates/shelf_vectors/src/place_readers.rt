@@ -47,7 +47,7 @@ fn rejects<S: Row, R: Reader<S>>(
 /// `(a,b)`, and skip over it.
 fn skipped<S: Row>(rt: &impl Abort, heap: Global) -> Result<(), Fail> {
     let mut desk = new_desk::<S>(heap)?;
-    desk.holds(9, &[1, 1, 2], b"ab")?;
+    desk.holds(rt, 9, &[1, 1, 2], b"ab")?;
     let bare = desk.reader(9);
     assert_eq!(rt; bare.states(), 3);
     accepts(rt, heap, &bare, b"ab")?;
@@ -65,7 +65,7 @@ fn skipped<S: Row>(rt: &impl Abort, heap: Global) -> Result<(), Fail> {
 /// `(a*)`, and limit 2 over it.
 fn limited<S: Row>(rt: &impl Abort, heap: Global) -> Result<(), Fail> {
     let mut desk = new_desk::<S>(heap)?;
-    desk.holds(0, &[1, 5], b"a")?;
+    desk.holds(rt, 0, &[1, 5], b"a")?;
     let bare = desk.reader(0);
     assert_eq!(rt; bare.states(), 2);
     accepts(rt, heap, &bare, b"aaaaaaaaaa")?;
@@ -82,7 +82,7 @@ fn limited<S: Row>(rt: &impl Abort, heap: Global) -> Result<(), Fail> {
 /// `(a)`: skip over limit 1 passes over foreign symbols before they are counted, limit 1 over skip counts them.
 fn piled<S: Row>(rt: &impl Abort, heap: Global) -> Result<(), Fail> {
     let mut desk = new_desk::<S>(heap)?;
-    desk.holds(3, &[1], b"a")?;
+    desk.holds(rt, 3, &[1], b"a")?;
     accepts(rt, heap, &Skip::new(Limit::new(desk.reader(3), 1)), b"axx")?;
     rejects(rt, heap, &Limit::new(Skip::new(desk.reader(3)), 1), b"axx")
 }
@@ -90,8 +90,8 @@ fn piled<S: Row>(rt: &impl Abort, heap: Global) -> Result<(), Fail> {
 /// The reader of an empty place, and of no place, has one state and takes nothing.
 fn empty<S: Row>(rt: &impl Abort, heap: Global) -> Result<(), Fail> {
     let mut desk = new_desk::<S>(heap)?;
-    desk.holds(3, &[1, 5], b"a")?;
-    desk.leaves(3)?;
+    desk.holds(rt, 3, &[1, 5], b"a")?;
+    desk.leaves(rt, 3)?;
     for place in [0, 3, 16, usize::MAX] {
         let reader = desk.reader(place);
         assert_eq!(rt; reader.states(), 1);
@@ -124,7 +124,7 @@ fn cues(rt: HostRuntime) -> Result<(), Fail> {
 fn one_state(rt: HostRuntime) -> Result<(), Fail> {
     let heap = rt.alloc();
     let mut desk = new_desk::<NameRow>(heap)?;
-    desk.holds(5, &[0], b"")?;
+    desk.holds(&rt, 5, &[0], b"")?;
     let reader = desk.reader(5);
     assert_eq!(rt; reader.states(), 1);
     accepts(&rt, heap, &reader, b"")?;
@@ -136,7 +136,7 @@ fn one_state(rt: HostRuntime) -> Result<(), Fail> {
 fn greatest_limit(rt: HostRuntime) -> Result<(), Fail> {
     let heap = rt.alloc();
     let mut desk = new_desk::<NameRow>(heap)?;
-    desk.holds(15, &sequence(), &[b'a'; 64])?;
+    desk.holds(&rt, 15, &sequence(), &[b'a'; 64])?;
     let reader = desk.reader(15);
     assert_eq!(rt; reader.states(), 65);
     accepts(&rt, heap, &reader, &[b'a'; 64])?;

@@ -43,42 +43,49 @@ const REFUSALS: &[Refusal] = &[
 ];
 
 /// 65 symbols are too many, whatever the codes are, and 1,281 codes, whatever they are; neither counts where the place is taken.
-fn too_large<S: Row>(heap: Global) -> Result<(), Fail> {
+fn too_large<S: Row>(rt: &impl Abort, heap: Global) -> Result<(), Fail> {
     let mut desk = new_desk::<S>(heap)?;
-    desk.refuses(0, &[1], &[b'a'; 65], MANY_SYMBOLS)?;
-    desk.refuses(0, &[7; 1281], &[b'a'; 65], MANY_SYMBOLS)?;
-    desk.refuses(0, &[7; 1281], b"a", MANY_CODES)?;
-    desk.holds(0, &[1], b"a")?;
-    desk.refuses(0, &[7; 1281], &[b'a'; 65], Fault::Taken { place: 0 })
+    desk.refuses(rt, 0, &[1], &[b'a'; 65], MANY_SYMBOLS)?;
+    desk.refuses(rt, 0, &[7; 1281], &[b'a'; 65], MANY_SYMBOLS)?;
+    desk.refuses(rt, 0, &[7; 1281], b"a", MANY_CODES)?;
+    desk.holds(rt, 0, &[1], b"a")?;
+    desk.refuses(rt, 0, &[7; 1281], &[b'a'; 65], Fault::Taken { place: 0 })
 }
 
 /// Each of these models is refused in an empty place; in a taken one, for that, and where there is no place, for that.
-fn refused<S: Row>(heap: Global) -> Result<(), Fail> {
+fn refused<S: Row>(rt: &impl Abort, heap: Global) -> Result<(), Fail> {
     let mut desk = new_desk::<S>(heap)?;
-    desk.loads(4, &[1, 1, 4, 2], b"ab", &[2, 0])?;
+    desk.loads(rt, 4, &[1, 1, 4, 2], b"ab", &[2, 0])?;
     for refusal in REFUSALS {
-        desk.refuses(3, refusal.codes, refusal.letters, refusal.fault)?;
-        desk.refuses(4, refusal.codes, refusal.letters, Fault::Taken { place: 4 })?;
+        desk.refuses(rt, 3, refusal.codes, refusal.letters, refusal.fault)?;
         desk.refuses(
+            rt,
+            4,
+            refusal.codes,
+            refusal.letters,
+            Fault::Taken { place: 4 },
+        )?;
+        desk.refuses(
+            rt,
             16,
             refusal.codes,
             refusal.letters,
             Fault::NoPlace { place: 16 },
         )?;
     }
-    desk.loads(3, &[1, 1, 5, 2], b"aa", &[2, 2])
+    desk.loads(rt, 3, &[1, 1, 5, 2], b"aa", &[2, 2])
 }
 
 #[test]
 fn names(rt: HostRuntime) -> Result<(), Fail> {
-    too_large::<NameRow>(rt.alloc())?;
-    refused::<NameRow>(rt.alloc())
+    too_large::<NameRow>(&rt, rt.alloc())?;
+    refused::<NameRow>(&rt, rt.alloc())
 }
 
 #[test]
 fn cues(rt: HostRuntime) -> Result<(), Fail> {
-    too_large::<CueRow>(rt.alloc())?;
-    refused::<CueRow>(rt.alloc())
+    too_large::<CueRow>(&rt, rt.alloc())?;
+    refused::<CueRow>(&rt, rt.alloc())
 }
 
 /// `(a|A)`: the cues of a note on two channels are the same, so they compete; as names `a` and `A` are two.
@@ -87,6 +94,7 @@ fn channels(rt: HostRuntime) -> Result<(), Fail> {
     let heap = rt.alloc();
     let mut cues = new_desk::<CueRow>(heap)?;
     cues.refuses(
+        &rt,
         0,
         &[1, 1, 3],
         b"aA",
@@ -96,7 +104,7 @@ fn channels(rt: HostRuntime) -> Result<(), Fail> {
         },
     )?;
     let mut names = new_desk::<NameRow>(heap)?;
-    names.loads(0, &[1, 1, 3], b"aA", &[0, 0])
+    names.loads(&rt, 0, &[1, 1, 3], b"aA", &[0, 0])
 }
 
 /// Loads `(a)` into a place over these lists.
@@ -196,12 +204,12 @@ fn withdrawn<S: Row>(rt: &impl Abort, heap: Global) -> Result<(), Fail> {
         Err(Fault::NoPlace { place: usize::MAX })
     );
     assert_eq!(rt; desk.withdraw(6), Err(Fault::Vacant { place: 6 }));
-    desk.loads(6, &[1, 1, 4, 2], b"ab", &[2, 0])?;
-    desk.loads(7, &[1, 1, 5, 2], b"aa", &[2, 2])?;
-    desk.leaves(6)?;
+    desk.loads(rt, 6, &[1, 1, 4, 2], b"ab", &[2, 0])?;
+    desk.loads(rt, 7, &[1, 1, 5, 2], b"aa", &[2, 2])?;
+    desk.leaves(rt, 6)?;
     assert_eq!(rt; desk.withdraw(6), Err(Fault::Vacant { place: 6 }));
-    desk.loads(6, &[1], b"c", &[0])?;
-    desk.refuses(7, &[1], b"c", Fault::Taken { place: 7 })
+    desk.loads(rt, 6, &[1], b"c", &[0])?;
+    desk.refuses(rt, 7, &[1], b"c", Fault::Taken { place: 7 })
 }
 
 #[test]

@@ -4,6 +4,7 @@ use super::rows::Row;
 use faults::Fault;
 use models::trials::Trial;
 use std::alloc::Global;
+use std::process::Abort;
 use std::test::*;
 use symbols::cue_rows::CueRow;
 use symbols::name_rows::NameRow;
@@ -31,9 +32,15 @@ const MODELS: &[Model; 4] = &[
 ];
 
 /// Whether the place answers as the model does.
-fn answers<S: Row>(desk: &Desk<S>, place: usize, model: &Model) -> Result<(), Fail> {
-    desk.tells(place, model.word, Trial::Yes)?;
+fn answers<S: Row>(
+    rt: &impl Abort,
+    desk: &Desk<S>,
+    place: usize,
+    model: &Model,
+) -> Result<(), Fail> {
+    desk.tells(rt, place, model.word, Trial::Yes)?;
     desk.tells(
+        rt,
         place,
         model.other,
         Trial::No {
@@ -43,43 +50,60 @@ fn answers<S: Row>(desk: &Desk<S>, place: usize, model: &Model) -> Result<(), Fa
 }
 
 /// Round k loads model k mod 4 into place k mod 15, then withdraws that of the round before; place 15 keeps `(a,b?)` all along.
-fn turns<S: Row>(heap: Global) -> Result<(), Fail> {
+fn turns<S: Row>(rt: &impl Abort, heap: Global) -> Result<(), Fail> {
     let mut desk = new_desk::<S>(heap)?;
-    desk.loads(15, MODELS[0].codes, MODELS[0].letters, MODELS[0].followers)?;
+    desk.loads(
+        rt,
+        15,
+        MODELS[0].codes,
+        MODELS[0].letters,
+        MODELS[0].followers,
+    )?;
     for k in 0..40 {
-        turn(&mut desk, k)?;
+        turn(rt, &mut desk, k)?;
     }
     Ok(())
 }
 
-fn turn<S: Row>(desk: &mut Desk<S>, k: usize) -> Result<(), Fail> {
+fn turn<S: Row>(rt: &impl Abort, desk: &mut Desk<S>, k: usize) -> Result<(), Fail> {
     let place = k % 15;
     let model = &MODELS[k % 4];
-    desk.refuses_trial(place, model.word, Fault::Vacant { place })?;
-    desk.loads(place, model.codes, model.letters, model.followers)?;
-    desk.refuses(place, model.codes, model.letters, Fault::Taken { place })?;
-    answers(desk, place, model)?;
-    answers(desk, 15, &MODELS[0])?;
+    desk.refuses_trial(rt, place, model.word, Fault::Vacant { place })?;
+    desk.loads(rt, place, model.codes, model.letters, model.followers)?;
+    desk.refuses(
+        rt,
+        place,
+        model.codes,
+        model.letters,
+        Fault::Taken { place },
+    )?;
+    answers(rt, desk, place, model)?;
+    answers(rt, desk, 15, &MODELS[0])?;
     if k >= 1 {
-        leave(desk, (k - 1) % 15, &MODELS[(k - 1) % 4])?;
-        answers(desk, place, model)?;
+        leave(rt, desk, (k - 1) % 15, &MODELS[(k - 1) % 4])?;
+        answers(rt, desk, place, model)?;
     }
     Ok(())
 }
 
 /// Withdraws a model that still answers as it should.
-fn leave<S: Row>(desk: &mut Desk<S>, place: usize, model: &Model) -> Result<(), Fail> {
-    answers(desk, place, model)?;
-    desk.leaves(place)?;
-    desk.refuses_trial(place, model.word, Fault::Vacant { place })
+fn leave<S: Row>(
+    rt: &impl Abort,
+    desk: &mut Desk<S>,
+    place: usize,
+    model: &Model,
+) -> Result<(), Fail> {
+    answers(rt, desk, place, model)?;
+    desk.leaves(rt, place)?;
+    desk.refuses_trial(rt, place, model.word, Fault::Vacant { place })
 }
 
 #[test]
 fn names(rt: HostRuntime) -> Result<(), Fail> {
-    turns::<NameRow>(rt.alloc())
+    turns::<NameRow>(&rt, rt.alloc())
 }
 
 #[test]
 fn cues(rt: HostRuntime) -> Result<(), Fail> {
-    turns::<CueRow>(rt.alloc())
+    turns::<CueRow>(&rt, rt.alloc())
 }

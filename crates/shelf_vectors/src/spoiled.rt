@@ -14,22 +14,22 @@ use symbols::name_rows::NameRow;
 const SPOILS: &[(u8, u64)] = &[(b'a', u64::MAX), (b'x', 0), (b'b', 3)];
 
 /// `(a,b?)` in place 0 and `(a,b*)` in place 2 answer as they should.
-fn exact<S: Row>(desk: &Desk<S>) -> Result<(), Fail> {
-    desk.tells(0, b"ab", Trial::Yes)?;
-    desk.tells(0, b"abb", Trial::No { longest: 2 })?;
-    desk.tells(2, b"abb", Trial::Yes)?;
-    desk.tells(2, b"abba", Trial::No { longest: 3 })?;
+fn exact<S: Row>(rt: &impl Abort, desk: &Desk<S>) -> Result<(), Fail> {
+    desk.tells(rt, 0, b"ab", Trial::Yes)?;
+    desk.tells(rt, 0, b"abb", Trial::No { longest: 2 })?;
+    desk.tells(rt, 2, b"abb", Trial::Yes)?;
+    desk.tells(rt, 2, b"abba", Trial::No { longest: 3 })?;
     let first = desk.reader(0);
     let third = desk.reader(2);
-    desk.includes(0, &third, 12)?;
-    desk.misses(2, &first, 12, &[1, 2, 2])
+    desk.includes(rt, 0, &third, 12)?;
+    desk.misses(rt, 2, &first, 12, &[1, 2, 2])
 }
 
 /// Calls on place 1, which held `(a,b)`, end, and are refused as before; trials and comparisons change neither list.
 fn ends<S: Row>(rt: &impl Abort, desk: &mut Desk<S>) -> Result<(), Fail> {
     let before = desk.lists()?;
     judged(rt, desk)?;
-    desk.refuses(1, &[1], b"a", Fault::Taken { place: 1 })?;
+    desk.refuses(rt, 1, &[1], b"a", Fault::Taken { place: 1 })?;
     assert!(rt; desk.kept(&before));
     Ok(())
 }
@@ -41,31 +41,31 @@ fn judged<S: Row>(rt: &impl Abort, desk: &Desk<S>) -> Result<(), Fail> {
     let other = desk.reader(0);
     let spoilt = desk.reader(1);
     assert_eq!(rt; spoilt.states(), 3);
-    desk.answers(1, &other, 12)?;
-    desk.answers(0, &spoilt, 12)?;
+    desk.answers(rt, 1, &other, 12)?;
+    desk.answers(rt, 0, &spoilt, 12)?;
     let short = Fault::ShortList {
         layer: Layer::Compare,
         cells: 24,
     };
-    desk.refuses_lists(1, &other, 23, 12, short)
+    desk.refuses_lists(rt, 1, &other, 23, 12, short)
 }
 
 /// Place 1 is spoiled in three ways; then it is withdrawn, and loaded anew.
 fn spoiled<S: Row>(rt: &impl Abort, heap: Global) -> Result<(), Fail> {
     let mut desk = new_desk::<S>(heap)?;
-    desk.holds(0, &[1, 1, 4, 2], b"ab")?;
-    desk.holds(1, &[1, 1, 2], b"ab")?;
-    desk.holds(2, &[1, 1, 5, 2], b"ab")?;
+    desk.holds(rt, 0, &[1, 1, 4, 2], b"ab")?;
+    desk.holds(rt, 1, &[1, 1, 2], b"ab")?;
+    desk.holds(rt, 2, &[1, 1, 5, 2], b"ab")?;
     for (letter, number) in SPOILS {
         desk.spoil(*letter, *number);
         ends(rt, &mut desk)?;
-        exact(&desk)?;
+        exact(rt, &desk)?;
     }
-    desk.leaves(1)?;
-    desk.loads(1, &[1, 1, 2], b"ab", &[2, 0])?;
-    desk.tells(1, b"ab", Trial::Yes)?;
-    desk.tells(1, b"aa", Trial::No { longest: 1 })?;
-    exact(&desk)
+    desk.leaves(rt, 1)?;
+    desk.loads(rt, 1, &[1, 1, 2], b"ab", &[2, 0])?;
+    desk.tells(rt, 1, b"ab", Trial::Yes)?;
+    desk.tells(rt, 1, b"aa", Trial::No { longest: 1 })?;
+    exact(rt, &desk)
 }
 
 #[test]

@@ -6,6 +6,6 @@ use Rattle.editor.proofs.including.includes_over.Goals as goal
 
 pub returns : goal.returns
 returns c m n p q =
-    subst (Says m n) (sym c.is-included.ensures)
-    (told_by_sets c.args.first.now c.args.second.now m n p q c.match-names-matched.result (search rules) (simp sub-zero at c.match-names-matched.ensures) _ _ _ _ _ c.requires.work c.requires.word
-    (simp sub-zero at c.compare-tables.ensures.exact))
+    subst (Says m n) (sym c.is_included.ensures)
+    (told_by_sets c.args.first.now c.args.second.now m n p q c.match_names-matched.result (search rules) (simp sub-zero at c.match_names-matched.ensures) _ _ _ _ _ c.requires.work c.requires.word
+    (simp sub-zero at c.compare_tables.ensures.exact))

@@ -1,7 +1,7 @@
 use Rattle.std.proofs.Common.{◌+◌, sym, ◌∙◌, subst, arith}
 use Rattle.editor.proofs.Marking.{MarkedTo, none_yet, passed, found}
 use Rattle.editor.proofs.matching.find_namesakes.Goals as goal
-use Rattle.editor.proofs.matching.find_namesakes.Goals.{then_same, else_same}
+use Rattle.editor.proofs.matching.find_namesakes.Goals.{then-same, else-same}
 
 pub loop-k-preserved : goal.loop-k-preserved
 loop-k-preserved c =
@@ -9,8 +9,8 @@ loop-k-preserved c =
     let name = c.args.name.now in
     let names = c.args.names.now in
     elim c.if-same.branch [
-      | then_same w ↦ subst (λ p. MarkedTo (k + 1) p name names) (sym w.positions-is) (found k c.loop-k.positions name names c.loop-k.invariant c.loop-k-test.true _ (omega arith) (sym w.if-same.ensures))
-      | else_same w ↦ subst (λ p. MarkedTo (k + 1) p name names) (sym w.positions-is) (passed k c.loop-k.positions name names c.loop-k.invariant c.loop-k-test.true _ (sym w.if-same.ensures))
+      | then-same w ↦ subst (λ p. MarkedTo (k + 1) p name names) (sym w.positions-is) (found k c.loop-k.positions name names c.loop-k.invariant c.loop-k-test.true _ (omega arith) (sym w.if-same.ensures))
+      | else-same w ↦ subst (λ p. MarkedTo (k + 1) p name names) (sym w.positions-is) (passed k c.loop-k.positions name names c.loop-k.invariant c.loop-k-test.true _ (sym w.if-same.ensures))
     ]
 
 pub loop-k-init : goal.loop-k-init

@@ -13,15 +13,15 @@ lines-requires c =
     let l = given_length bodies d.0 d.1 in
     (d.0, d.2, omega (arith, c.count.ensures.value), omega (arith, c.count.ensures.value, c.requires.some))
 
-pub returns-in-ok-text : goal.returns-in-ok-text
-returns-in-ok-text c =
+pub returns-in_ok-text-in-Ok : goal.returns-in_ok-text-in-Ok
+returns-in_ok-text-in-Ok c =
     let bodies = bodies_in c.args.book.now.bytes.now in
     let d = c.in-Ok.ensures bodies c.requires c.new-desk.ensures in
     let n = book_count _ bodies c.requires in
     let l = given_length bodies d.0 d.1 in
-    compared c.requires d.1 (c.in-ok-text.ensures d.0 d.2 (omega (arith, c.count.ensures.value)))
+    compared c.requires d.1 (c.in_ok-text-in-Ok.ensures d.0 d.2 (omega (arith, c.count.ensures.value)))
 
-pub returns-in-ok-text-2 : goal.returns-in-ok-text-2
-returns-in-ok-text-2 c =
+pub returns-in_ok-text-in-Err : goal.returns-in_ok-text-in-Err
+returns-in_ok-text-in-Err c =
     let bodies = bodies_in c.args.book.now.bytes.now in
-    no_model c.requires (c.in-Err.ensures bodies c.requires c.new-desk.ensures) c.in-ok-text-2.ensures
+    no_model c.requires (c.in-Err.ensures bodies c.requires c.new-desk.ensures) c.in_ok-text-in-Err.ensures

@@ -5,7 +5,7 @@ use Rattle.slip.proofs.printing.lines.Goals as goal
 pub loop-k-preserved : goal.loop-k-preserved
 loop-k-preserved c = λ ms h l.
     let i = c.loop-k.invariant ms h l in
-    let t = c.in-ok-tell.ensures ms i.0 (omega (arith, c.loop-k-test.true)) (omega (arith, c.loop-k-test.true)) in
+    let t = c.in_ok-tell.ensures ms i.0 (omega (arith, c.loop-k-test.true)) (omega (arith, c.loop-k-test.true)) in
     (t.0, lines_more ms c.loop-k.k (vec_items c.loop-k.text) (vec_items c.tell.new.text) (omega (arith, c.loop-k-test.true)) t.1 i.1)
 
 pub returns : goal.returns

@@ -19,7 +19,7 @@ loop-k-preserved c = λ bodies b h.
     let k = c.loop-k.k in
     let i = c.loop-k.invariant bodies b h in
     let l : k < length bodies = omega (arith, c.loop-k-test.true, c.count-k-end.ensures.value, book_count _ bodies b) in
-    let r = c.in-default.ensures bodies i.0 b l i.2 (given_first bodies k i.0 (omega arith) i.1) in
+    let r = c.in_default.ensures bodies i.0 b l i.2 (given_first bodies k i.0 (omega arith) i.1) in
     (i.0 ++ r.0 ∷ [], given_more bodies k i.0 r.0 l i.1 r.1, r.2)
 
 pub returns : goal.returns

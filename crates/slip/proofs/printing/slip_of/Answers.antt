@@ -1,5 +1,5 @@
 use Rattle.slip.specs.Printed.{no_book}
 use Rattle.slip.proofs.printing.slip_of.Goals as goal
 
-pub returns-in-ok-line : goal.returns-in-ok-line
-returns-in-ok-line c = no_book c.in-Err.ensures c.in-ok-line.ensures
+pub returns-in_ok-line-in-Err : goal.returns-in_ok-line-in-Err
+returns-in_ok-line-in-Err c = no_book c.in-Err.ensures c.in_ok-line-in-Err.ensures

@@ -5,8 +5,8 @@ use Rattle.slip.proofs.telling.spell.Goals as goal
 pub loop-i-preserved : goal.loop-i-preserved
 loop-i-preserved c = spelled_more c.args.symbols.now c.loop-i.rows c.args.word.now c.args.count c.loop-i.i _ c.requires.within c.loop-i-test.true c.requires.some (omega (arith, c.requires.room, c.loop-i.auto.rows)) c.loop-i.invariant
 
-pub overflow-sub-rows : goal.overflow-sub-rows
-overflow-sub-rows c = (position_within c.args.symbols.now c.args.word.now c.args.count c.loop-i.i c.requires.within c.loop-i-test.true c.requires.some).0
+pub overflow_sub-rows : goal.overflow_sub-rows
+overflow_sub-rows c = (position_within c.args.symbols.now c.args.word.now c.args.count c.loop-i.i c.requires.within c.loop-i-test.true c.requires.some).0
 
 pub bounds-symbols-position : goal.bounds-symbols-position
 bounds-symbols-position c =

@@ -6,4 +6,4 @@ use Rattle.editor.proofs.matching.MatchReaderReaderNamesakes.step.Goals as goal
 
 pub returns : goal.returns
 returns c = let r = c.args.self.now in
-    c.lowest-position.ensures ∙ ap (λ row. lowest (min 64 r.count) 0 (bit_and row c.args.symbol.now.positions)) c.next-positions-next.ensures ∙ match_goes r.sets r.followers.now r.count c.args.state c.args.symbol.now
+    c.lowest_position.ensures ∙ ap (λ row. lowest (min 64 r.count) 0 (bit_and row c.args.symbol.now.positions)) c.next_positions-next.ensures ∙ match_goes r.sets r.followers.now r.count c.args.state c.args.symbol.now

@@ -3,13 +3,13 @@ use Rattle.std.proofs.lemmas.Result.{err_from_is_err_and}
 use Rattle.slip.proofs.Loading.{unread_reads, codes_fit, text_of, puts_reads}
 use Rattle.slip.proofs.desks.Desk.load.Goals as goal
 
-pub returns-in-err-counts : goal.returns-in-err-counts
-returns-in-err-counts c = λ ms h n.
-    let p = err_from_is_err_and c.from-residual.result c.from-residual.ensures.1 in
-    unread_reads ms _ _ _ _ _ _ _ _ _ p.1 p.2 (omega arith) (omega arith) c.in-err-counts.ensures.answer
+pub returns-in_err-counts : goal.returns-in_err-counts
+returns-in_err-counts c = λ ms h n.
+    let p = err_from_is_err_and c.from_residual.result c.from_residual.ensures.1 in
+    unread_reads ms _ _ _ _ _ _ _ _ _ p.1 p.2 (omega arith) (omega arith) c.in_err-counts.ensures.answer
 
-pub slice-bounds-put-end : goal.slice-bounds-put-end
-slice-bounds-put-end c = let f = codes_fit _ _ _ _ _ _ c.in-ok-counts.ensures.answer in omega arith
+pub slice_bounds-put-end : goal.slice_bounds-put-end
+slice_bounds-put-end c = let f = codes_fit _ _ _ _ _ _ c.in_ok-counts.ensures.answer in omega arith
 
 pub returns : goal.returns
-returns c = λ ms h n. puts_reads ms _ _ _ _ (text_of _ _ _ _ _ _ c.in-ok-counts.ensures.answer) (c.put.ensures ms h n)
+returns c = λ ms h n. puts_reads ms _ _ _ _ (text_of _ _ _ _ _ _ c.in_ok-counts.ensures.answer) (c.put.ensures ms h n)

@@ -25,8 +25,8 @@ spell-requires c =
       room = omega (arith, shown_most v, c.shown-count.ensures);
     }
 
-pub push-line-requires : goal.push-line-requires
-push-line-requires c =
+pub push_line-requires : goal.push_line-requires
+push_line-requires c =
     let ms = c.requires.0 in
     let first = c.args.first in
     let second = c.args.second in
@@ -51,7 +51,7 @@ returns c = λ ms h i j.
     let line = line_of row_bytes first second v (take (c.shown-count.result - 0) c.spell.new.rows) in
     let g = c.compare-verdict.ensures ms (get_or ms first (given [] [])) (get_or ms second (given [] [])) h (slice_get-get_or ms first (given [] []) i) (slice_get-get_or ms second (given [] []) j) in (
       g.1,
-      made_told c.push-line.result _ text _ line c.push-line.ensures (λ e m n p q.
+      made_told c.push_line.result _ text _ line c.push_line.ensures (λ e m n p q.
           let f = c.compare-verdict.ensures ms m n h p q in
           let s = judged_line c.compare-verdict.new.self ms f.1 first second m n p v f.0 _ _ _ c.reader-model.ensures.exact c.shown-count.result c.spell.new.rows c.shown-count.ensures c.spell.ensures in
           (v, s.0, s.1, e ∙ ap (λ l. text ++ l) s.2)),
