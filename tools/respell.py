@@ -3,7 +3,7 @@
 
 usage: tools/respell.py [--list]     at the top of the repository, once, after port.py; --list only prints the names
 
-A word is in snake case (`layer-shown` becomes `layer_shown`), a fact keeps its capital and is in camel case
+A word is in snake case (`layer-shown` becomes `layer_shown`, and `recordAt` becomes `record_at`), a fact keeps its capital and is in camel case
 (`Runs-agree` becomes `RunsAgree`), and a lemma that says what one function gives of another keeps the dash between
 the two (`length-markers`). Goals, whose names Rattle makes, are left alone, and so is a name that a file imports from
 outside the repository. In a .rt file only ghost text is turned, never a string or a comment; in a must-fail edit the
@@ -19,17 +19,28 @@ import sys
 TOKEN = re.compile(r"[^\s(){}\[\],;.\"`⌜⌝:]+")
 PROOF_OF_A_FUNCTION = re.compile(r"/(Answers|Invariants|Choices|Proof)\.antt$")
 GOAL = re.compile(
-    r"^(returns|invariant|decreases|loop|overflow|bounds|offset[-_]bounds|slice[-_]bounds|nonzero|prove)(-|$)|-(requires|preserved|init|smaller)(-|$)"
+    r"^(returns|invariant|decreases|loop|overflow|nonzero)([-_]|$)|^(bounds|prove)(-|$)|^(offset|slice)[-_]bounds"
+    r"|-(requires|preserved|init|smaller|returns)(-|$)"
 )
+CAMEL = re.compile(r"[a-z]\w*[A-Z]")
 HEADS = {"length", "take", "drop", "append", "map"}
 # Names that would fall together with a function beside them, or with a word of the library.
 GIVEN = {
+    "getD_none": "get_or_none",
+    "like_getD": "like_get_or",
     "bit-and": "bit-bit_and",
     "bit-or": "Bit-bit_or",
     "body-line": "line_of_body",
     "book-line": "line_of_book",
     "shown-symbols": "symbols_shown",
     "short-list": "fault_of_shortage",
+    "chainOf": "chain_of_tok",
+    "compareAnswer": "answer_of_compare",
+    "doneAnswer": "answer_of_done",
+    "mayEnd": "can_end",
+    "mayFollow": "can_follow",
+    "nextSet": "set_after",
+    "trialAnswer": "answer_of_trial",
 }
 ENDS = {"append", "take", "drop", "set", "map", "replicate", "write", "front", "from"}
 
@@ -82,6 +93,8 @@ def new_name(name, is_lemma, words):
     if name in GIVEN:
         return GIVEN[name]
     parts = name.split("-")
+    if CAMEL.match(name):
+        return re.sub(r"[A-Z]", lambda m: "_" + m.group(0).lower(), name)
     if name[0].isupper():
         return parts[0] + "".join(p[:1].upper() + p[1:] for p in parts[1:])
     head, rest = parts[0], "_".join(parts[1:])
@@ -108,9 +121,9 @@ def turn_source(text, names):
 def main():
     lemma = declared()
     words = {n for n in lemma if "-" not in n}
-    old = [n for n in lemma if re.search(r"[A-Za-z]", n) and "-" in n]
+    old = [n for n in lemma if CAMEL.match(n) or re.search(r"[A-Za-z]", n) and "-" in n]
     names = {n: new_name(n, lemma[n], words | {m.replace("-", "_") for m in old if not lemma[m]}) for n in old}
-    names = {n: m for n, m in names.items() if n != m}
+    names = {n: m for n, m in names.items() if n != m and n not in GIVEN.values()}
     if "--list" in sys.argv:
         for n, m in sorted(names.items()):
             print(n, m)

@@ -16,7 +16,7 @@ use Rattle.shelf.specs.Calls.{Done, Judges, LoadEnds, TrialEnds}
 use Rattle.shelf.proofs.Refining.{ok_err}
 use Rattle.comparison.specs.declared.calls.Answer.{Answer}
 use Rattle.comparison.specs.Compares.{CompareEnds}
-use Rattle.comparison.specs.Runs.{Request, loads, withdraws, tries, compares, place_of, doneAnswer, trialAnswer, compareAnswer, Plain, changed, step, Says, Lives, rests, calls}
+use Rattle.comparison.specs.Runs.{Request, loads, withdraws, tries, compares, place_of, answer_of_done, answer_of_trial, answer_of_compare, Plain, changed, step, Says, Lives, rests, calls}
 use Rattle.comparison.specs.Promise.{FormedOf, AllFormed, OneAnswer, OneLife}
 
 module _ {S : Type 0} (same : S → S → Bool) where
@@ -48,11 +48,11 @@ module _ {S : Type 0} (same : S → S → Bool) where
   load_done true true p m u h = absurd (ok_err u (fault.Taken p) h)
   load_done true false p m u h = (refl, h.0)
 
-  formed_loaded : (here full : Bool) (p : ℕ) (m : Model S) (k : Option (Model S)) (r : Done) → FormedOf k → LoadEnds same here full p m r → FormedOf (changed (loads p m) (doneAnswer r) k)
+  formed_loaded : (here full : Bool) (p : ℕ) (m : Model S) (k : Option (Model S)) (r : Done) → FormedOf k → LoadEnds same here full p m r → FormedOf (changed (loads p m) (answer_of_done r) k)
   formed_loaded here full p m k (Ok u) f h = (load_done here full p m u h).1
   formed_loaded here full p m k (Err g) f h = f
 
-  formed_withdrawn : (p : ℕ) (k : Option (Model S)) (r : Done) → FormedOf k → FormedOf (changed (withdraws p) (doneAnswer r) k)
+  formed_withdrawn : (p : ℕ) (k : Option (Model S)) (r : Done) → FormedOf k → FormedOf (changed (withdraws p) (answer_of_done r) k)
   formed_withdrawn p k (Ok u) f = tt
   formed_withdrawn p k (Err g) f = f
 
@@ -80,13 +80,13 @@ module _ {S : Type 0} (same : S → S → Bool) {foreign : S → Bool} (laws : K
 
   pub one_says : OneAnswer same
   one_says places work (loads p m) k f word u v r s h j =
-      (h.1.1 ∙ ap doneAnswer (one_load same (places p) (is_some k) p m h.1.0 j.1.0 h.1.2 j.1.2) ∙ sym j.1.1, h.0 ∙ sym j.0)
+      (h.1.1 ∙ ap answer_of_done (one_load same (places p) (is_some k) p m h.1.0 j.1.0 h.1.2 j.1.2) ∙ sym j.1.1, h.0 ∙ sym j.0)
   one_says places work (withdraws p) k f word u v r s h j = (h.1 ∙ sym j.1, h.0 ∙ sym j.0)
   one_says places work (tries p w) k f word u v r s h j =
-      (h.1.1 ∙ ap trialAnswer (one_trial same (places p) p k w h.1.0 j.1.0 h.1.2 j.1.2) ∙ sym j.1.1, h.0 ∙ sym j.0)
+      (h.1.1 ∙ ap answer_of_trial (one_trial same (places p) p k w h.1.0 j.1.0 h.1.2 j.1.2) ∙ sym j.1.1, h.0 ∙ sym j.0)
   one_says places work (compares p t) k f word u v r s h j =
       let q = one_compare t (places p) p k f work word u v h.0 j.0 h.2 j.2 in
-      (h.1 ∙ ap compareAnswer q.0 ∙ sym j.1, q.1)
+      (h.1 ∙ ap answer_of_compare q.0 ∙ sym j.1, q.1)
 
   pub one_life : OneLife same
   one_life places work plain p₁ p₂ f word u v asks rs₁ rs₂ rests rests = (refl, refl, refl)

@@ -11,7 +11,7 @@ use Rattle.product.specs.Compares.{Spent}
 use Rattle.product.proofs.Says.{searched_says, searched_spent}
 use Rattle.shelf.specs.declared.records.Record.{Record}
 use Rattle.shelf.specs.declared.records.Record.TheVariants.{Empty, Taken}
-use Rattle.shelf.specs.Places.{State, front, recordAt, has, HoldsAt}
+use Rattle.shelf.specs.Places.{State, front, record_at, has, HoldsAt}
 use Rattle.comparison.specs.Compares.{Refuses, ComparesAt, Compares, CompareEnds}
 
 spent_length : (work work' : List ℕ) (r : Result Compared Fault) → Spent r work work' → length work' ≡ length work
@@ -29,7 +29,7 @@ module _ {S : Type 0} (t : Table S) where
   spent_at true (Taken k) p ss ns work word work' word' r d = searched_spent (product k.sets (front ns p k.count) (front ss p k.count) t) work word work' word' r d
 
   pub compares_length : (s : State S) (p : ℕ) (work word work' word' : List ℕ) (r : Result Compared Fault) → Compares t s p work word r work' word' → length work' ≡ length work
-  compares_length s p work word work' word' r d = spent_length work work' r (spent_at (has s p) (recordAt s.shelf p) p s.symbols s.numbers work word work' word' r d)
+  compares_length s p work word work' word' r d = spent_length work work' r (spent_at (has s p) (record_at s.shelf p) p s.symbols s.numbers work word work' word' r d)
 
 module _ {S : Type 0} (same : S → S → Bool) {foreign : S → Bool} (laws : KindLaws same foreign) (t : Table S) (H : Sound t) (A : Alike same t) where
   -- a comparison of a place that holds k is the plain shelf's
@@ -43,5 +43,5 @@ module _ {S : Type 0} (same : S → S → Bool) {foreign : S → Bool} (laws : K
       searched_says same laws t H A c.sets (front ns p c.count) (front ss p c.count) m h.1.tables work word work' word' r d
 
   pub compare_ends : (s : State S) (p : ℕ) (work word work' word' : List ℕ) (r : Result Compared Fault) (k : Option (Model S)) → Compares t s p work word r work' word'
-      → HoldsAt same (recordAt s.shelf p) s.symbols s.numbers p k → CompareEnds same t (has s p) p k (length work) word r word'
-  compare_ends s p work word work' word' r k d h = ends_at (has s p) (recordAt s.shelf p) p s.symbols s.numbers work word work' word' r k d h
+      → HoldsAt same (record_at s.shelf p) s.symbols s.numbers p k → CompareEnds same t (has s p) p k (length work) word r word'
+  compare_ends s p work word work' word' r k d h = ends_at (has s p) (record_at s.shelf p) p s.symbols s.numbers work word work' word' r k d h

@@ -22,14 +22,14 @@ use Rattle.product.specs.Compares.{verdict, Searched}
 use Rattle.shelf.specs.declared.records.Record.{Record}
 use Rattle.shelf.specs.declared.records.Record.TheVariants.{Empty, Taken}
 use Rattle.shelf.specs.declared.records.Summary.{Summary}
-use Rattle.shelf.specs.Places.{State, room, front, placed, recordAt, is_taken, has}
-use Rattle.shelf.specs.Calls.{Done, LoadEnds, withdrawEnds, Others, Unchanged, LoadWrites, WithdrawWrites, TriesAt}
+use Rattle.shelf.specs.Places.{State, room, front, placed, record_at, is_taken, has}
+use Rattle.shelf.specs.Calls.{Done, LoadEnds, withdraw_ends, Others, Unchanged, LoadWrites, WithdrawWrites, TriesAt}
 use Rattle.shelf.proofs.Cells.{length_placed}
 use Rattle.shelf.proofs.Refining.{room_cells}
 use Rattle.comparison.specs.declared.calls.Answer.{Answer}
 use Rattle.comparison.specs.declared.calls.Answer.TheVariants as answer
 use Rattle.comparison.specs.Compares.{ComparesAt}
-use Rattle.comparison.specs.Runs.{Request, loads, withdraws, tries, compares, doneAnswer, trialAnswer, compareAnswer, Memory, memory, Did, load, withdraw, try, compare, Untouched}
+use Rattle.comparison.specs.Runs.{Request, loads, withdraws, tries, compares, answer_of_done, answer_of_trial, answer_of_compare, Memory, memory, Did, load, withdraw, try, compare, Untouched}
 use Rattle.comparison.specs.Keeping.{SameOutside, RoomSays, AnswersAt, Keeps, SpoiledKeep}
 use Rattle.comparison.proofs.Ending.{compares_length}
 use Rattle.comparison.proofs.Answered.{load_done}
@@ -61,19 +61,19 @@ module _ {S : Type 0} (same : S → S → Bool) where
   unchanged_others : (s t : State S) (p : ℕ) → Unchanged s t → Others s p t
   unchanged_others s t p w q ne = ap (λ l. get_or l q Empty) w.shelf
 
-  load_answers : (here : Bool) (found : Record) (work word p : ℕ) (m : Model S) (r : Done) → LoadEnds same here (is_taken found) p m r → AnswersAt same here found work word (loads p m) (doneAnswer r)
-  load_answers false found work word p m r e = ap doneAnswer e
+  load_answers : (here : Bool) (found : Record) (work word p : ℕ) (m : Model S) (r : Done) → LoadEnds same here (is_taken found) p m r → AnswersAt same here found work word (loads p m) (answer_of_done r)
+  load_answers false found work word p m r e = ap answer_of_done e
   load_answers true Empty work word p m r e = (r, refl, e)
-  load_answers true (Taken k) work word p m r e = ap doneAnswer e
+  load_answers true (Taken k) work word p m r e = ap answer_of_done e
 
-  load_keeps : (s t : State S) (work word : List ℕ) (p : ℕ) (m : Model S) (r : Done) → LoadEnds same (has s p) (is_taken (recordAt s.shelf p)) p m r → LoadWrites same s p m r t
-      → Keeps same (memory s work word) (loads p m) (doneAnswer r) (memory t work word)
+  load_keeps : (s t : State S) (work word : List ℕ) (p : ℕ) (m : Model S) (r : Done) → LoadEnds same (has s p) (is_taken (record_at s.shelf p)) p m r → LoadWrites same s p m r t
+      → Keeps same (memory s work word) (loads p m) (answer_of_done r) (memory t work word)
   load_keeps s t work word p m (Ok u) e w =
-      let d = load_done same (has s p) (is_taken (recordAt s.shelf p)) p m u e in
+      let d = load_done same (has s p) (is_taken (record_at s.shelf p)) p m u e in
       let c = room_cells _ _ p d.0 in
       let few = d.1.few in
       record {
-        answers = load_answers (has s p) (recordAt s.shelf p) (length work) (length word) p m (Ok u) e;
+        answers = load_answers (has s p) (record_at s.shelf p) (length work) (length word) p m (Ok u) e;
         records = w.others;
         symbols = placed_outside p s.symbols m.symbols t.symbols c.0 few w.symbols;
         numbers = placed_outside p s.numbers w.followers t.numbers c.1 (omega (arith, few, w.even)) w.numbers;
@@ -82,7 +82,7 @@ module _ {S : Type 0} (same : S → S → Bool) where
       }
   load_keeps s t work word p m (Err g) e w =
       record {
-        answers = load_answers (has s p) (recordAt s.shelf p) (length work) (length word) p m (Err g) e;
+        answers = load_answers (has s p) (record_at s.shelf p) (length work) (length word) p m (Err g) e;
         records = unchanged_others s t p w;
         symbols = same_outside p s.symbols t.symbols w.symbols;
         numbers = same_outside p s.numbers t.numbers w.numbers;
@@ -90,16 +90,16 @@ module _ {S : Type 0} (same : S → S → Bool) where
         refused = λ f q. untouched s t work word w;
       }
 
-  withdraw_answers : (here : Bool) (found : Record) (work word p : ℕ) (r : Done) → r ≡ withdrawEnds here (is_taken found) p → AnswersAt same here found work word (withdraws p) (doneAnswer r)
-  withdraw_answers false found work word p r e = ap doneAnswer e
-  withdraw_answers true Empty work word p r e = ap doneAnswer e
-  withdraw_answers true (Taken k) work word p r e = ap doneAnswer e
+  withdraw_answers : (here : Bool) (found : Record) (work word p : ℕ) (r : Done) → r ≡ withdraw_ends here (is_taken found) p → AnswersAt same here found work word (withdraws p) (answer_of_done r)
+  withdraw_answers false found work word p r e = ap answer_of_done e
+  withdraw_answers true Empty work word p r e = ap answer_of_done e
+  withdraw_answers true (Taken k) work word p r e = ap answer_of_done e
 
-  withdraw_keeps : (s t : State S) (work word : List ℕ) (p : ℕ) (r : Done) → r ≡ withdrawEnds (has s p) (is_taken (recordAt s.shelf p)) p → WithdrawWrites s p r t
-      → Keeps same (memory s work word) (withdraws p) (doneAnswer r) (memory t work word)
+  withdraw_keeps : (s t : State S) (work word : List ℕ) (p : ℕ) (r : Done) → r ≡ withdraw_ends (has s p) (is_taken (record_at s.shelf p)) p → WithdrawWrites s p r t
+      → Keeps same (memory s work word) (withdraws p) (answer_of_done r) (memory t work word)
   withdraw_keeps s t work word p (Ok u) e w =
       record {
-        answers = withdraw_answers (has s p) (recordAt s.shelf p) (length work) (length word) p (Ok u) e;
+        answers = withdraw_answers (has s p) (record_at s.shelf p) (length work) (length word) p (Ok u) e;
         records = w.others;
         symbols = same_outside p s.symbols t.symbols w.symbols;
         numbers = same_outside p s.numbers t.numbers w.numbers;
@@ -108,7 +108,7 @@ module _ {S : Type 0} (same : S → S → Bool) where
       }
   withdraw_keeps s t work word p (Err g) e w =
       record {
-        answers = withdraw_answers (has s p) (recordAt s.shelf p) (length work) (length word) p (Err g) e;
+        answers = withdraw_answers (has s p) (record_at s.shelf p) (length work) (length word) p (Err g) e;
         records = unchanged_others s t p w;
         symbols = same_outside p s.symbols t.symbols w.symbols;
         numbers = same_outside p s.numbers t.numbers w.numbers;
@@ -117,9 +117,9 @@ module _ {S : Type 0} (same : S → S → Bool) where
       }
 
   try_answers : (here : Bool) (found : Record) (work word p : ℕ) (ss : List S) (ns : List ℕ) (w : List S) (r : Result Trial Fault) → TriesAt same here found p ss ns w r
-      → AnswersAt same here found work word (tries p w) (trialAnswer r)
-  try_answers false found work word p ss ns w r d = ap trialAnswer d
-  try_answers true Empty work word p ss ns w r d = ap trialAnswer d
+      → AnswersAt same here found work word (tries p w) (answer_of_trial r)
+  try_answers false found work word p ss ns w r d = ap answer_of_trial d
+  try_answers true Empty work word p ss ns w r d = ap answer_of_trial d
   try_answers true (Taken k) work word p ss ns w (Ok v) d = (v, refl)
   try_answers true (Taken k) work word p ss ns w (Err f) d = absurd d
 
@@ -128,7 +128,7 @@ module _ {S : Type 0} (same : S → S → Bool) where
 
 -- what the search of a graph of so many nodes answers and writes
 module _ (G : LabelledGraph) (n : ℕ) (is : G.nodes ≡ n) (work word work' word' : List ℕ) where
-  found_room : (found : Result Outcome Shortage) → Searches G work word work' word' found → RoomSays n (length work) (length word) (compareAnswer (verdict found))
+  found_room : (found : Result Outcome Shortage) → Searches G work word work' word' found → RoomSays n (length work) (length word) (answer_of_compare (verdict found))
   found_room (Err (Work j)) a =
       record {
         short_work = λ h. ap (λ i. answer.Refused (fault.ShortList Compare i)) (a.needed ∙ ap (λ i. 2 * i) is);
@@ -154,18 +154,18 @@ module _ (G : LabelledGraph) (n : ℕ) (is : G.nodes ≡ n) (work word work' wor
         enough = λ h k. (Missed j, refl);
       }
 
-  searched_room : (r : Result Compared Fault) → Searched G work word work' word' r → RoomSays n (length work) (length word) (compareAnswer r)
-  searched_room r d = subst (λ x. RoomSays n (length work) (length word) (compareAnswer x)) (sym d.1) (found_room d.0 d.2)
+  searched_room : (r : Result Compared Fault) → Searched G work word work' word' r → RoomSays n (length work) (length word) (answer_of_compare r)
+  searched_room r d = subst (λ x. RoomSays n (length work) (length word) (answer_of_compare x)) (sym d.1) (found_room d.0 d.2)
 
   -- the lists that a refusal leaves
-  found_refused : (found : Result Outcome Shortage) (f : Fault) → Searches G work word work' word' found → compareAnswer (verdict found) ≡ answer.Refused f → (work' ≡ work) × (word' ≡ word)
+  found_refused : (found : Result Outcome Shortage) (f : Fault) → Searches G work word work' word' found → answer_of_compare (verdict found) ≡ answer.Refused f → (work' ≡ work) × (word' ≡ word)
   found_refused (Err (Work j)) f a e = (a.same_work, a.same_word)
   found_refused (Err (WordCells j)) f a e = (a.same_work, a.same_word)
   found_refused (Ok Absent) f a e = absurd (let z : ◌≡◌ {A = ℕ} 0 1 = cc in omega arith)
   found_refused (Ok (Found j)) f a e = absurd (let z : ◌≡◌ {A = ℕ} 0 1 = cc in omega arith)
 
-  searched_refused : (r : Result Compared Fault) (f : Fault) → Searched G work word work' word' r → compareAnswer r ≡ answer.Refused f → (work' ≡ work) × (word' ≡ word)
-  searched_refused r f d e = found_refused d.0 f d.2 (ap compareAnswer (sym d.1) ∙ e)
+  searched_refused : (r : Result Compared Fault) (f : Fault) → Searched G work word work' word' r → answer_of_compare r ≡ answer.Refused f → (work' ≡ work) × (word' ≡ word)
+  searched_refused r f d e = found_refused d.0 f d.2 (ap answer_of_compare (sym d.1) ∙ e)
 
   -- only the beginning of the word list is written
   found_word : (found : Result Outcome Shortage) → Searches G work word work' word' found → (w : List ℕ) × (word' ≡ w ++ drop (length w) word)
@@ -187,13 +187,13 @@ module _ {S : Type 0} (t : Table S) where
       ap (λ n. (n + 1) * (t.states + 1)) q
 
   compare_answers : (same : S → S → Bool) (here : Bool) (found : Record) (p : ℕ) (ss : List S) (ns work word work' word' : List ℕ) (r : Result Compared Fault) → room (length ss) (length ns) p ≡ here
-      → ComparesAt t here found p ss ns work word r work' word' → AnswersAt same here found (length work) (length word) (compares p t) (compareAnswer r)
-  compare_answers same false found p ss ns work word work' word' r e d = ap compareAnswer d.0
-  compare_answers same true Empty p ss ns work word work' word' r e d = ap compareAnswer d.0
+      → ComparesAt t here found p ss ns work word r work' word' → AnswersAt same here found (length work) (length word) (compares p t) (answer_of_compare r)
+  compare_answers same false found p ss ns work word work' word' r e d = ap answer_of_compare d.0
+  compare_answers same true Empty p ss ns work word work' word' r e d = ap answer_of_compare d.0
   compare_answers same true (Taken k) p ss ns work word work' word' r e d = searched_room (graph k p ss ns) _ (pairs_are k p ss ns e) work word work' word' r d
 
   compare_refused : (here : Bool) (found : Record) (p : ℕ) (ss : List S) (ns work word work' word' : List ℕ) (r : Result Compared Fault) (f : Fault)
-      → ComparesAt t here found p ss ns work word r work' word' → compareAnswer r ≡ answer.Refused f → (work' ≡ work) × (word' ≡ word)
+      → ComparesAt t here found p ss ns work word r work' word' → answer_of_compare r ≡ answer.Refused f → (work' ≡ work) × (word' ≡ word)
   compare_refused false found p ss ns work word work' word' r f d e = (d.1, d.2)
   compare_refused true Empty p ss ns work word work' word' r f d e = (d.1, d.2)
   compare_refused true (Taken k) p ss ns work word work' word' r f d e = searched_refused (graph k p ss ns) _ refl work word work' word' r f d e
@@ -210,7 +210,7 @@ module _ {S : Type 0} (same : S → S → Bool) where
   keeps (withdraw {s = s} {t = t} {work = work} {word = word} {p = p} r d) = withdraw_keeps same s t work word p r d.ends d.writes
   keeps (try {s = s} {work = work} {word = word} {p = p} {w = w} r d) =
       record {
-        answers = try_answers same (has s p) (recordAt s.shelf p) (length work) (length word) p s.symbols s.numbers w r d;
+        answers = try_answers same (has s p) (record_at s.shelf p) (length work) (length word) p s.symbols s.numbers w r d;
         records = λ q ne. refl;
         symbols = same_outside p s.symbols s.symbols refl;
         numbers = same_outside p s.numbers s.numbers refl;
@@ -218,7 +218,7 @@ module _ {S : Type 0} (same : S → S → Bool) where
         refused = λ f e. nothing_changed same (memory s work word);
       }
   keeps (compare {s = s} {work = work} {work' = work'} {word = word} {word' = word'} {p = p} {t = t} r H A d) =
-      let found = recordAt s.shelf p in
+      let found = record_at s.shelf p in
       record {
         answers = compare_answers t same (has s p) found p s.symbols s.numbers work word work' word' r refl d;
         records = λ q ne. refl;

@@ -4,7 +4,7 @@ use Rattle.symbols.specs.Kinds.{KindLaws}
 use Rattle.language.specs.Meaning.{Model}
 use Rattle.shelf.specs.declared.records.Record.{Record}
 use Rattle.shelf.specs.declared.records.Record.TheVariants.{Empty, Taken}
-use Rattle.shelf.specs.Places.{front, recordAt, is_taken, Kept, HoldsAt, Holds}
+use Rattle.shelf.specs.Places.{front, record_at, is_taken, Kept, HoldsAt, Holds}
 use Rattle.comparison.specs.declared.calls.Answer.{Answer}
 use Rattle.comparison.specs.Runs.{Request, place_of, Memory, changed}
 use Rattle.comparison.specs.Lives.{SameCells, Spares, Lived, LivesAt, LivesAgree}
@@ -29,7 +29,7 @@ module _ {S : Type 0} (same : S → S → Bool) where
   spared_holds : (q : ℕ) (s t : Memory S) (k : Option (Model S)) → Spares q s t → Holds same s.base q k → Holds same t.base q k
   spared_holds q s t k p h =
       subst (λ found. HoldsAt same found t.base.symbols t.base.numbers q k) (sym (ap (λ l. get_or l q Empty) p.records))
-      (kept_on q s t (recordAt s.base.shelf q) k p.cells h)
+      (kept_on q s t (record_at s.base.shelf q) k p.cells h)
 
 module _ {S : Type 0} (same : S → S → Bool) {foreign : S → Bool} (laws : KindLaws same foreign) where
   lived : (q : ℕ) {s u : Memory S} {asks : List (Request S)} {rs : List Answer} (k : Option (Model S)) → Lived same q s asks rs u → Holds same s.base q k

@@ -13,7 +13,7 @@ use Rattle.product.specs.Compares.{little_work, little_word, included, missed}
 use Rattle.product.proofs.Answered.{exactly}
 use Rattle.shelf.specs.declared.records.Record.{Record}
 use Rattle.shelf.specs.declared.records.Record.TheVariants.{Empty, Taken}
-use Rattle.shelf.specs.Places.{recordAt, cells_of, HoldsAt}
+use Rattle.shelf.specs.Places.{record_at, cells_of, HoldsAt}
 use Rattle.shelf.specs.Calls.{Done}
 use Rattle.shelf.specs.Theorems.{PlaceReaders}
 use Rattle.shelf.proofs.Refining.{ok_err, reader_takes, reader_states, missing_reads}
@@ -59,7 +59,7 @@ module _ {S : Type 0} (same : S → S → Bool) {foreign : S → Bool} (laws : K
     runs = runs_agree same laws;
     one = one_says same laws;
     once = one_life same laws;
-    formed = λ s plain h q. holds_formed same (recordAt s.base.shelf q) s.base.symbols s.base.numbers q (plain q) (h q);
+    formed = λ s plain h q. holds_formed same (record_at s.base.shelf q) s.base.symbols s.base.numbers q (plain q) (h q);
     ambiguous = ambiguous_exactly same;
     included = exactly same laws;
     missed = missed_least same;

@@ -6,10 +6,10 @@ use Rattle.symbols.specs.Kinds.{KindLaws}
 use Rattle.language.specs.Meaning.{Model}
 use Rattle.shelf.specs.declared.shelves.Shelf.{Shelf}
 use Rattle.shelf.specs.Places.{room, has, Holds}
-use Rattle.shelf.specs.Calls.{Done, afterLoad, afterWithdraw}
+use Rattle.shelf.specs.Calls.{Done, after_load, after_withdraw}
 use Rattle.shelf.proofs.Refining.{load_refines, withdraw_refines, try_refines}
 use Rattle.comparison.specs.declared.calls.Answer.{Answer}
-use Rattle.comparison.specs.Runs.{Request, place_of, doneAnswer, Memory, Lists, lent, Did, load, withdraw, try, compare, Run, none, more, Plain, whenDone, changed, step, Says, Lives, rests, calls, Agrees, Matches, RunsAgree, Replayed, Replays, ReplaysNew}
+use Rattle.comparison.specs.Runs.{Request, place_of, answer_of_done, Memory, Lists, lent, Did, load, withdraw, try, compare, Run, none, more, Plain, when_done, changed, step, Says, Lives, rests, calls, Agrees, Matches, RunsAgree, Replayed, Replays, ReplaysNew}
 use Rattle.comparison.proofs.Ending.{compares_length, compare_ends}
 
 cond_same : {A : Type 0} (b : Bool) (x : A) → cond b x x ≡ x
@@ -17,11 +17,11 @@ cond_same true x = refl
 cond_same false x = refl
 
 module _ {S : Type 0} where
-  load_after : (r : Done) (m : Model S) (k : Option (Model S)) → afterLoad r m k ≡ whenDone (doneAnswer r) (Some m) k
+  load_after : (r : Done) (m : Model S) (k : Option (Model S)) → after_load r m k ≡ when_done (answer_of_done r) (Some m) k
   load_after (Ok u) m k = refl
   load_after (Err f) m k = refl
 
-  withdraw_after : (r : Done) (k : Option (Model S)) → afterWithdraw r k ≡ whenDone (doneAnswer r) None k
+  withdraw_after : (r : Done) (k : Option (Model S)) → after_withdraw r k ≡ when_done (answer_of_done r) None k
   withdraw_after (Ok u) k = refl
   withdraw_after (Err f) k = refl
 
@@ -66,7 +66,7 @@ module _ {S : Type 0} (same : S → S → Bool) {foreign : S → Bool} (laws : K
       let f = withdraw_refines same s t p r d in
       record {
         content = λ q k h. subst (λ x. Holds same t q (cond (eqb q p) x k)) (withdraw_after r k) (f.content q k h);
-        reply = λ k h. (refl, ap doneAnswer (f.reply k h));
+        reply = λ k h. (refl, ap answer_of_done (f.reply k h));
         symbols = f.symbols;
         numbers = f.numbers;
         work = refl;

@@ -9,7 +9,7 @@ use Rattle.product.specs.Pairs.{product}
 use Rattle.product.specs.Compares.{Searched, CompareSays}
 use Rattle.shelf.specs.declared.records.Record.{Record}
 use Rattle.shelf.specs.declared.records.Record.TheVariants.{Empty, Taken}
-use Rattle.shelf.specs.Places.{State, front, recordAt, has}
+use Rattle.shelf.specs.Places.{State, front, record_at, has}
 
 -- In what follows, `work` and `word` are the two lists as lent, and `work'` and `word'` as given back.
 
@@ -27,7 +27,7 @@ module _ {S : Type 0} (t : Table S) where
 
   -- a comparison of place p that returns r
   abbrev pub Compares : State S → ℕ → List ℕ → List ℕ → Result Compared Fault → List ℕ → List ℕ → Type 0
-  Compares s p work word r work' word' = ComparesAt (has s p) (recordAt s.shelf p) p s.symbols s.numbers work word r work' word'
+  Compares s p work word r work' word' = ComparesAt (has s p) (record_at s.shelf p) p s.symbols s.numbers work word r work' word'
 
 module _ {S : Type 0} (same : S → S → Bool) (t : Table S) where
   -- the plain shelf's answer, with so many cells of work: `here` says whether there is such a place, k what it has

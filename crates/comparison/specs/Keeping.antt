@@ -7,11 +7,11 @@ use Rattle.models.specs.declared.trials.Trial.{Trial}
 use Rattle.product.specs.declared.Compared.{Compared}
 use Rattle.shelf.specs.declared.records.Record.{Record}
 use Rattle.shelf.specs.declared.records.Record.TheVariants.{Empty, Taken}
-use Rattle.shelf.specs.Places.{recordAt, has}
+use Rattle.shelf.specs.Places.{record_at, has}
 use Rattle.shelf.specs.Calls.{Done, Judges, Others}
 use Rattle.comparison.specs.declared.calls.Answer.{Answer}
 use Rattle.comparison.specs.declared.calls.Answer.TheVariants as answer
-use Rattle.comparison.specs.Runs.{Request, loads, withdraws, tries, compares, place_of, doneAnswer, trialAnswer, compareAnswer, Memory, Did, Untouched}
+use Rattle.comparison.specs.Runs.{Request, loads, withdraws, tries, compares, place_of, answer_of_done, answer_of_trial, answer_of_compare, Memory, Did, Untouched}
 
 -- the list is as long as it was, and every cell outside the stretch of place p is as it was
 pub record SameOutside {X : Type 0} (p : ℕ) (old new : List X) : Type 0 where
@@ -23,20 +23,20 @@ pub record SameOutside {X : Type 0} (p : ℕ) (old new : List X) : Type 0 where
 pub record RoomSays (pairs work word : ℕ) (r : Answer) : Type 0 where
   pub short_work : work < 2 * pairs → r ≡ answer.Refused (fault.ShortList Compare (2 * pairs))
   pub short_word : 2 * pairs ≤ work → word < pairs → r ≡ answer.Refused (fault.ShortList Compare pairs)
-  pub enough : 2 * pairs ≤ work → pairs ≤ word → (c : Compared) × (r ≡ compareAnswer (Ok c))
+  pub enough : 2 * pairs ≤ work → pairs ≤ word → (c : Compared) × (r ≡ answer_of_compare (Ok c))
 
 module _ {S : Type 0} (same : S → S → Bool) where
   -- The answers that a call may have, by whether its place exists, the record that stands there, and the cells of the work list and of the word list. What the place's cells
   -- hold decides no refusal: a load into an empty place is judged by the model that it brings, and a taken place refuses every load as taken.
   abbrev pub AnswersAt : Bool → Record → ℕ → ℕ → Request S → Answer → Type 0
   AnswersAt false found work word a r = r ≡ answer.Refused (fault.NoPlace (place_of a))
-  AnswersAt true Empty work word (loads p m) r = (d : Done) × (r ≡ doneAnswer d) × Judges same m d
+  AnswersAt true Empty work word (loads p m) r = (d : Done) × (r ≡ answer_of_done d) × Judges same m d
   AnswersAt true Empty work word (withdraws p) r = r ≡ answer.Refused (fault.Vacant p)
   AnswersAt true Empty work word (tries p w) r = r ≡ answer.Refused (fault.Vacant p)
   AnswersAt true Empty work word (compares p t) r = r ≡ answer.Refused (fault.Vacant p)
   AnswersAt true (Taken k) work word (loads p m) r = r ≡ answer.Refused (fault.Taken p)
   AnswersAt true (Taken k) work word (withdraws p) r = r ≡ answer.Done
-  AnswersAt true (Taken k) work word (tries p w) r = (v : Trial) × (r ≡ trialAnswer (Ok v))
+  AnswersAt true (Taken k) work word (tries p w) r = (v : Trial) × (r ≡ answer_of_trial (Ok v))
   AnswersAt true (Taken k) work word (compares p t) r = RoomSays ((k.count + 1) * (t.states + 1)) work word r
 
   -- what calls of each kind never write: a load leaves the work list and the word list, a withdrawal all four lists, a trial everything, and a comparison the shelf with its two
@@ -49,7 +49,7 @@ module _ {S : Type 0} (same : S → S → Bool) where
 
   -- a call from s to u: its answer is one that it may have, no record but that of its place changes, nor a cell outside the stretch of its place, and a refused call changes nothing
   pub record Keeps (s : Memory S) (a : Request S) (r : Answer) (u : Memory S) : Type 0 where
-    pub answers : AnswersAt (has s.base (place_of a)) (recordAt s.base.shelf (place_of a)) (length s.work) (length s.word) a r
+    pub answers : AnswersAt (has s.base (place_of a)) (record_at s.base.shelf (place_of a)) (length s.work) (length s.word) a r
     pub records : Others s.base (place_of a) u.base
     pub symbols : SameOutside (place_of a) s.base.symbols u.base.symbols
     pub numbers : SameOutside (place_of a) s.base.numbers u.base.numbers

@@ -1,7 +1,7 @@
 -- Calls on a shelf between which something else writes in its lists, or replaces them: what a place that is spared holds and answers. Assumes nothing.
 use Rattle.std.specs.Prelude.{◌≡◌, ℕ, ◌≤◌, Bool, true, cond, List, [], ◌∷◌, length, Option, ◌==◌}
 use Rattle.language.specs.Meaning.{Model}
-use Rattle.shelf.specs.Places.{front, recordAt, is_taken, has, Holds}
+use Rattle.shelf.specs.Places.{front, record_at, is_taken, has, Holds}
 use Rattle.comparison.specs.declared.calls.Answer.{Answer}
 use Rattle.comparison.specs.Runs.{Request, place_of, Memory, Did, changed, Says}
 
@@ -15,7 +15,7 @@ module _ {S : Type 0} (q : ℕ) where
   -- the shelf is as it was and, if place q is taken, so are its cells; all else may be other than it was, the lengths of the lists too
   pub record Spares (s t : Memory S) : Type 0 where
     pub records : t.base.shelf.records ≡ s.base.shelf.records
-    pub cells : is_taken (recordAt s.base.shelf q) ≡ true → SameCells s t
+    pub cells : is_taken (record_at s.base.shelf q) ≡ true → SameCells s t
 
 module _ {S : Type 0} (same : S → S → Bool) where
   -- calls anywhere, done or refused, and between them changes from outside that spare place q

@@ -10,7 +10,7 @@ use Rattle.product.specs.declared.Compared.TheVariants as compared
 use Rattle.shelf.specs.declared.records.Record.TheVariants.{Empty}
 use Rattle.shelf.specs.declared.shelves.Shelf.{Shelf}
 use Rattle.shelf.specs.Places.{State, state, has, Holds}
-use Rattle.shelf.specs.Calls.{Done, LoadEnds, TrialEnds, withdrawEnds, Loads, Withdraws, Tries}
+use Rattle.shelf.specs.Calls.{Done, LoadEnds, TrialEnds, withdraw_ends, Loads, Withdraws, Tries}
 use Rattle.comparison.specs.declared.calls.Answer.{Answer}
 use Rattle.comparison.specs.declared.calls.Answer.TheVariants as answer
 use Rattle.comparison.specs.declared.calls.Call.{Call}
@@ -39,19 +39,19 @@ place_of (tries p word) = p
 place_of (compares p t) = p
 
 -- the answers, by what the calls return
-abbrev pub doneAnswer : Done → Answer
-doneAnswer (Ok u) = answer.Done
-doneAnswer (Err f) = answer.Refused f
+abbrev pub answer_of_done : Done → Answer
+answer_of_done (Ok u) = answer.Done
+answer_of_done (Err f) = answer.Refused f
 
-abbrev pub trialAnswer : Result Trial Fault → Answer
-trialAnswer (Ok trial.Yes) = answer.Yes
-trialAnswer (Ok (trial.No n)) = answer.No n
-trialAnswer (Err f) = answer.Refused f
+abbrev pub answer_of_trial : Result Trial Fault → Answer
+answer_of_trial (Ok trial.Yes) = answer.Yes
+answer_of_trial (Ok (trial.No n)) = answer.No n
+answer_of_trial (Err f) = answer.Refused f
 
-abbrev pub compareAnswer : Result Compared Fault → Answer
-compareAnswer (Ok compared.Included) = answer.Included
-compareAnswer (Ok (compared.Missed n)) = answer.Missed n
-compareAnswer (Err f) = answer.Refused f
+abbrev pub answer_of_compare : Result Compared Fault → Answer
+answer_of_compare (Ok compared.Included) = answer.Included
+answer_of_compare (Ok (compared.Missed n)) = answer.Missed n
+answer_of_compare (Err f) = answer.Refused f
 
 -- a shelf with the four lists that are lent to its calls: all that a call may change
 pub record Memory (S : Type 0) : Type 0 where
@@ -81,11 +81,11 @@ module _ {S : Type 0} (same : S → S → Bool) where
   -- One call: the memory before it, what it asks, the answer, and the memory after it. A comparison is with any sound table in which same symbols lead alike;
   -- what one that is not refused leaves in the work list is free, but not its length.
   pub data Did : Memory S → Request S → Answer → Memory S → Type 0 where
-    load : {s t : State S} {work word : List ℕ} {p : ℕ} {m : Model S} (r : Done) → Loads same s p m r t → Did (memory s work word) (loads p m) (doneAnswer r) (memory t work word)
-    withdraw : {s t : State S} {work word : List ℕ} {p : ℕ} (r : Done) → Withdraws s p r t → Did (memory s work word) (withdraws p) (doneAnswer r) (memory t work word)
-    try : {s : State S} {work word : List ℕ} {p : ℕ} {w : List S} (r : Result Trial Fault) → Tries same s p w r → Did (memory s work word) (tries p w) (trialAnswer r) (memory s work word)
+    load : {s t : State S} {work word : List ℕ} {p : ℕ} {m : Model S} (r : Done) → Loads same s p m r t → Did (memory s work word) (loads p m) (answer_of_done r) (memory t work word)
+    withdraw : {s t : State S} {work word : List ℕ} {p : ℕ} (r : Done) → Withdraws s p r t → Did (memory s work word) (withdraws p) (answer_of_done r) (memory t work word)
+    try : {s : State S} {work word : List ℕ} {p : ℕ} {w : List S} (r : Result Trial Fault) → Tries same s p w r → Did (memory s work word) (tries p w) (answer_of_trial r) (memory s work word)
     compare : {s : State S} {work work' word word' : List ℕ} {p : ℕ} {t : Table S} (r : Result Compared Fault) → Sound t → Alike same t → Compares t s p work word r work' word'
-        → Did (memory s work word) (compares p t) (compareAnswer r) (memory s work' word')
+        → Did (memory s work word) (compares p t) (answer_of_compare r) (memory s work' word')
 
   -- calls one after the other
   pub data Run : Memory S → List (Request S) → List Answer → Memory S → Type 0 where
@@ -98,18 +98,18 @@ Plain S = ℕ → Option (Model S)
 
 module _ {S : Type 0} where
   -- x where the answer is `Done`, and else k
-  abbrev pub whenDone : Answer → Option (Model S) → Option (Model S) → Option (Model S)
-  whenDone answer.Done x k = x
-  whenDone answer.Yes x k = k
-  whenDone (answer.No n) x k = k
-  whenDone answer.Included x k = k
-  whenDone (answer.Missed n) x k = k
-  whenDone (answer.Refused f) x k = k
+  abbrev pub when_done : Answer → Option (Model S) → Option (Model S) → Option (Model S)
+  when_done answer.Done x k = x
+  when_done answer.Yes x k = k
+  when_done (answer.No n) x k = k
+  when_done answer.Included x k = k
+  when_done (answer.Missed n) x k = k
+  when_done (answer.Refused f) x k = k
 
   -- what the called place has after the answer: a load that is done puts its model, a withdrawal that is done takes it away, and nothing else changes anything
   abbrev pub changed : Request S → Answer → Option (Model S) → Option (Model S)
-  changed (loads p m) r k = whenDone r (Some m) k
-  changed (withdraws p) r k = whenDone r None k
+  changed (loads p m) r k = when_done r (Some m) k
+  changed (withdraws p) r k = when_done r None k
   changed (tries p word) r k = k
   changed (compares p t) r k = k
 
@@ -125,10 +125,10 @@ module _ {S : Type 0} (same : S → S → Bool) where
   -- The plain shelf's answer to a call at a place that has k, with the word list before and after it. `places` says which places there are, and
   -- `work` how many cells the work list has.
   abbrev pub Says : (ℕ → Bool) → ℕ → Request S → Option (Model S) → List ℕ → Answer → List ℕ → Type 0
-  Says places work (loads p m) k word a word' = (word' ≡ word) × ((r : Done) × (a ≡ doneAnswer r) × LoadEnds same (places p) (is_some k) p m r)
-  Says places work (withdraws p) k word a word' = (word' ≡ word) × (a ≡ doneAnswer (withdrawEnds (places p) (is_some k) p))
-  Says places work (tries p w) k word a word' = (word' ≡ word) × ((r : Result Trial Fault) × (a ≡ trialAnswer r) × TrialEnds same (places p) p k w r)
-  Says places work (compares p t) k word a word' = (r : Result Compared Fault) × (a ≡ compareAnswer r) × CompareEnds same t (places p) p k work word r word'
+  Says places work (loads p m) k word a word' = (word' ≡ word) × ((r : Done) × (a ≡ answer_of_done r) × LoadEnds same (places p) (is_some k) p m r)
+  Says places work (withdraws p) k word a word' = (word' ≡ word) × (a ≡ answer_of_done (withdraw_ends (places p) (is_some k) p))
+  Says places work (tries p w) k word a word' = (word' ≡ word) × ((r : Result Trial Fault) × (a ≡ answer_of_trial r) × TrialEnds same (places p) p k w r)
+  Says places work (compares p t) k word a word' = (r : Result Compared Fault) × (a ≡ answer_of_compare r) × CompareEnds same t (places p) p k work word r word'
 
   -- the plain shelf over a list of calls: what it has and the word list before them, the calls, the answers, and both after them
   pub data Lives (places : ℕ → Bool) (work : ℕ) : Plain S → List ℕ → List (Request S) → List Answer → Plain S → List ℕ → Type 0 where

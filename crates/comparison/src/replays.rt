@@ -1,7 +1,7 @@
 // One call, and lists of calls.
 ghost use Rattle.std.specs.Prelude.{◌≡◌, map, length, nat_le};
 ghost use Rattle.shelf.specs.Places.{state};
-ghost use Rattle.comparison.specs.Runs.{request, doneAnswer, trialAnswer, compareAnswer, memory, lists, Did, Replays, ReplaysNew};
+ghost use Rattle.comparison.specs.Runs.{request, answer_of_done, answer_of_trial, answer_of_compare, memory, lists, Did, Replays, ReplaysNew};
 
 use crate::calls::{Answer, Call};
 use crate::comparing::compare;
@@ -14,7 +14,7 @@ use symbols::Symbol;
 
 /// The answer to a load or a withdrawal.
 fn done_answer(res: Result<(), Fault>) -> Answer
-    ensures { result ≡ doneAnswer res }
+    ensures { result ≡ answer_of_done res }
 {
     match res {
         Ok(()) => Answer::Done,
@@ -24,7 +24,7 @@ fn done_answer(res: Result<(), Fault>) -> Answer
 
 /// The answer to a trial.
 fn trial_answer(res: Result<Trial, Fault>) -> Answer
-    ensures { result ≡ trialAnswer res }
+    ensures { result ≡ answer_of_trial res }
 {
     match res {
         Ok(Trial::Yes) => Answer::Yes,
@@ -35,7 +35,7 @@ fn trial_answer(res: Result<Trial, Fault>) -> Answer
 
 /// The answer to a comparison.
 fn compare_answer(res: Result<Compared, Fault>) -> Answer
-    ensures { result ≡ compareAnswer res }
+    ensures { result ≡ answer_of_compare res }
 {
     match res {
         Ok(Compared::Included) => Answer::Included,

@@ -7,11 +7,11 @@ use Rattle.symbols.specs.declared.name_rows.NameRow.{NameRow}
 use Rattle.language.specs.Meaning.{symbol_at}
 use Rattle.language.proofs.Symbols.{symbol_some, symbol_is}
 use Rattle.models.specs.declared.tables.Sets.{Sets}
-use Rattle.models.specs.Stepping.{mayEnd}
+use Rattle.models.specs.Stepping.{can_end}
 use Rattle.tables.specs.Tables.{Table}
 use Rattle.tables.specs.Places.{bit, sought, row_of, ending_of, place_table}
 use Rattle.walk.specs.Graph.{LabelledGraph}
-use Rattle.product.specs.Pairs.{positions, mayFollow, after, product}
+use Rattle.product.specs.Pairs.{positions, can_follow, after, product}
 use Rattle.product.specs.PairsSound.{follows_parts}
 use Rattle.editor.specs.declared.matching.Namesakes.{Namesakes}
 use Rattle.editor.specs.Matching.{Marks, MarksAll, markers, meets, match_table}
@@ -24,8 +24,8 @@ graph s rows n w e g =
       nodes = (n + 1) * (w + 1);
       labels = n;
       start = 0;
-      goes = λ v y. cond (mayFollow s rows n (v / (w + 1)) y) (Some (y * (w + 1) + g (v % (w + 1)) y)) None;
-      wanted = λ v. leb (v / (w + 1)) n && (mayEnd s (v / (w + 1)) && not (e (v % (w + 1))));
+      goes = λ v y. cond (can_follow s rows n (v / (w + 1)) y) (Some (y * (w + 1) + g (v % (w + 1)) y)) None;
+      wanted = λ v. leb (v / (w + 1)) n && (can_end s (v / (w + 1)) && not (e (v % (w + 1))));
     }
 
 cond_same : (b : Bool) (p q : ℕ) → (b ≡ true → p ≡ q) → cond b (Some p) None ≡ cond b (Some q) None
@@ -35,10 +35,10 @@ cond_same false p q h = refl
 -- only positions matter
 same_graph : (s : Sets) (rows : List ℕ) (n w : ℕ) (e : ℕ → Bool) (g h : ℕ → ℕ → ℕ) → ((x y : ℕ) → 1 ≤ y → y ≤ n → g x y ≡ h x y) → graph s rows n w e g ≡ graph s rows n w e h
 same_graph s rows n w e g h same =
-    let q : (λ (v y : ℕ). cond (mayFollow s rows n (v / (w + 1)) y) (Some (y * (w + 1) + g (v % (w + 1)) y)) None) ≡ (λ (v y : ℕ). cond (mayFollow s rows n (v / (w + 1)) y) (Some (y * (w + 1) + h (v % (w + 1)) y)) None) =
-    fun_ext (λ v. fun_ext (λ y. cond_same (mayFollow s rows n (v / (w + 1)) y) _ _ (λ f.
+    let q : (λ (v y : ℕ). cond (can_follow s rows n (v / (w + 1)) y) (Some (y * (w + 1) + g (v % (w + 1)) y)) None) ≡ (λ (v y : ℕ). cond (can_follow s rows n (v / (w + 1)) y) (Some (y * (w + 1) + h (v % (w + 1)) y)) None) =
+    fun_ext (λ v. fun_ext (λ y. cond_same (can_follow s rows n (v / (w + 1)) y) _ _ (λ f.
     let p = follows_parts s rows n (v / (w + 1)) y f in ap (λ i. y * (w + 1) + i) (same (v % (w + 1)) y p.some p.most)))) in
-    ap (λ (f : ℕ → ℕ → Option ℕ). record { nodes = (n + 1) * (w + 1); labels = n; start = 0; goes = f; wanted = λ v. leb (v / (w + 1)) n && (mayEnd s (v / (w + 1)) && not (e (v % (w + 1)))) }) q
+    ap (λ (f : ℕ → ℕ → Option ℕ). record { nodes = (n + 1) * (w + 1); labels = n; start = 0; goes = f; wanted = λ v. leb (v / (w + 1)) n && (can_end s (v / (w + 1)) && not (e (v % (w + 1)))) }) q
 
 module _ (s : Sets) (rows : List ℕ) (sets : List Namesakes) (firsts : List NameRow) (t : Sets) (next : List ℕ) (names : List NameRow)
     (even : length sets ≡ length firsts) (few : length names ≤ 64) (marks : MarksAll sets firsts names) where

@@ -12,14 +12,14 @@ use Rattle.product.proofs.Says.{searched_says}
 use Rattle.tables.specs.Tables.{Table}
 use Rattle.tables.proofs.PlaceLaws.{place_sound, place_alike}
 use Rattle.tables.specs.Words.{Takes}
-use Rattle.shelf.specs.Places.{cells, tableFrom}
+use Rattle.shelf.specs.Places.{cells, table_from}
 use Rattle.shelf.proofs.Reading.{takes_word, word_takes}
 use Rattle.verdicts.proofs.Compared.{taken_included, astray_missed}
 use Rattle.editor.specs.declared.studying.Studied.{Studied}
 use Rattle.editor.specs.declared.matching.Namesakes.{Namesakes}
 use Rattle.editor.specs.Matching.{MarksAll, match_table}
 use Rattle.editor.proofs.Alike.{same_walk, front_marks}
-use Rattle.editor.specs.Tabled.{Tabled, OfSome, pairs_of, Says, includedIn}
+use Rattle.editor.specs.Tabled.{Tabled, OfSome, pairs_of, Says, included_in}
 
 few_names : (k : Studied) → OfSome k → k.count ≤ 64
 few_names k (m, q) = omega (arith, q.count, q.tables.formed.few)
@@ -34,7 +34,7 @@ most_pairs j k p q =
 
 -- the table of the reader of what is kept
 abbrev pub table_of : Studied → Table NameRow
-table_of k = tableFrom name_same (cells (take k.count k.names) k.followers k.sets)
+table_of k = table_from name_same (cells (take k.count k.names) k.followers k.sets)
 
 module _ (k : Studied) (m n : Model NameRow) (q : Tabled k n) where
   -- the reader takes just the words of the model
@@ -50,7 +50,7 @@ module _ (k : Studied) (m n : Model NameRow) (q : Tabled k n) where
 
   -- a comparison with room in its lists tells whether one model is included in the other
   told : (j : Studied) → Tabled j m → (work : ℕ) (word word' : List ℕ) (r : Result Compared Fault) → 2 * pairs_of j k ≤ work → pairs_of j k ≤ length word
-      → CompareSays name_same (table_of k) m work word r word' → Says m n (includedIn r)
+      → CompareSays name_same (table_of k) m work word r word' → Says m n (included_in r)
   told j p work word word' r a b (little_work h) = absurd (omega (arith, same_pairs j p, h))
   told j p work word word' r a b (little_word h i) = absurd (omega (arith, same_pairs j p, i))
   told j p work word word' r a b (included h i f) = taken_included name_same (table_of k) n just m f
@@ -76,7 +76,7 @@ module _ (j k : Studied) (m n : Model NameRow) (p : Tabled j m) (q : Tabled k n)
       (front_marks sets firsts names j.count (omega (arith, a)) marks)
 
   pub told_by_sets : (work word work' word' : List ℕ) (r : Result Compared Fault) → 2 * pairs_of j k ≤ length work → pairs_of j k ≤ length word
-      → Searched (product j.sets j.followers (take j.count sets) (match_table k.sets k.followers k.count)) work word work' word' r → Says m n (includedIn r)
+      → Searched (product j.sets j.followers (take j.count sets) (match_table k.sets k.followers k.count)) work word work' word' r → Says m n (included_in r)
   told_by_sets work word work' word' r a b d =
       told k m n q j p (length work) word word' r a b
       (searched_says name_same name_laws (table_of k) (place_sound name_same names k.followers k.sets.first k.sets.last k.sets.nullable)

@@ -35,7 +35,7 @@ Says m n true = Included name_same m n
 Says m n false = (w : List ℕ) × LeastMissed name_same m n w
 
 -- what a comparison says of that; one that is refused says nothing
-abbrev pub includedIn : Result Compared Fault → Bool
-includedIn (Ok compared.Included) = true
-includedIn (Ok (compared.Missed l)) = false
-includedIn (Err f) = false
+abbrev pub included_in : Result Compared Fault → Bool
+included_in (Ok compared.Included) = true
+included_in (Ok (compared.Missed l)) = false
+included_in (Err f) = false

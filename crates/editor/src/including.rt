@@ -2,7 +2,7 @@
 ghost use Rattle.std.specs.Prelude.{◌≡◌, ◌*◌, ◌≤◌, length};
 ghost use Rattle.symbols.specs.declared.name_rows.NameRow.{NameRow};
 ghost use Rattle.language.specs.Meaning.{Model};
-ghost use Rattle.editor.specs.Tabled.{Tabled, OfSome, Says, includedIn, pairs_of};
+ghost use Rattle.editor.specs.Tabled.{Tabled, OfSome, Says, included_in, pairs_of};
 
 use crate::matching::{MatchReader, match_names};
 use crate::studying::Studied;
@@ -14,7 +14,7 @@ const FEW_PAIRS: usize = 512;
 
 /// Whether a comparison says that the model is included.
 fn is_included(found: Result<Compared, Fault>) -> bool
-    ensures { result ≡ includedIn found }
+    ensures { result ≡ included_in found }
 {
     match found {
         Ok(Compared::Included) => true,

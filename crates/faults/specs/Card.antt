@@ -1,7 +1,7 @@
 -- The card of faults: what each fault's number is, which layer it belongs to, and what it names. Assumes nothing.
 use Rattle.std.specs.Prelude.{ℕ}
 use Rattle.faults.specs.declared.Layer.{Layer}
-use Rattle.faults.specs.declared.Layer.TheVariants.{Text, Model, Shelf, Compare, Line, Reader, Book, Cue}
+use Rattle.faults.specs.declared.Layer.TheVariants.{Text, Model, Shelf, Reader, Book, Cue}
 use Rattle.faults.specs.declared.Values.{Values}
 use Rattle.faults.specs.declared.Values.TheVariants.{One, Two}
 use Rattle.faults.specs.declared.Fault.{Fault}

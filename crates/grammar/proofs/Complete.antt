@@ -1,5 +1,5 @@
 -- What stands in a text by the productions is read, or is past a limit. Assumes nothing.
-use Rattle.std.proofs.Common.{◌≡◌, ℕ, ◌+◌, ◌<◌, ◌≤◌, Bool, false, ◌⊎◌, List, [], ◌∷◌, ◌++◌, length, get_or, codes, sym, refl, ap, ◌∙◌, subst, ⊎_elim, arith, length-append}
+use Rattle.std.proofs.Common.{◌≡◌, ℕ, ◌+◌, ◌<◌, ◌≤◌, Bool, false, List, [], ◌∷◌, ◌++◌, length, get_or, codes, sym, refl, ap, ◌∙◌, subst, ⊎_elim, arith, length-append}
 use Rattle.std.proofs.lemmas.List.{get_or_past}
 use Rattle.symbols.specs.Rule.{inner}
 use Rattle.tokens.specs.Bytes.{white}
@@ -9,7 +9,7 @@ use Rattle.tokens.proofs.Signs.{tok_word, tok_open, tok_close, tok_bar, tok_comm
 use Rattle.grammar.specs.declared.Chain.{Chain}
 use Rattle.grammar.specs.declared.Chain.TheVariants.{Choice, Seq}
 use Rattle.grammar.specs.Grammar.{sign, code, Name, Marks, unmarked, with_mark, Sym, cp, choice, seq, rest, Is, cp_name, cp_choice, cp_seq, is_choice, is_seq, rest_done, rest_next, Listed, listed_done, listed_next, Mixed, text_alone, text_star, text_names, ContentSpec, empty, mixed, children_choice, children_seq, Model}
-use Rattle.grammar.specs.Reads.{Cause, strange_byte, unexpected, long_name, too_deep, too_many, joins, chainOf, star_5, Mark, none, one, Outcome, good, bad, after, particle, body, onward, named, listed, Reads, p_name, p_long, p_many, p_deep, p_group, p_group_bad, p_none, b_bad, b_goes_on, o_done, o_bad, o_next, o_none, n_name, n_long, n_many, n_none, l_done, l_bad, l_next, l_none, Mixes, x_text, x_star, x_none, x_name_bad, x_list_bad, x_names, x_no_star, Opens, c_empty, c_word, c_none, c_mixed, c_children, c_bad, Whole, w_good, w_bad, w_left}
+use Rattle.grammar.specs.Reads.{Cause, strange_byte, unexpected, long_name, too_deep, too_many, joins, chain_of_tok, star_5, Mark, none, one, Outcome, good, bad, after, particle, body, onward, named, listed, Reads, p_name, p_long, p_many, p_deep, p_group, p_group_bad, p_none, b_bad, b_goes_on, o_done, o_bad, o_next, o_none, n_name, n_long, n_many, n_none, l_done, l_bad, l_next, l_none, Mixes, x_text, x_star, x_none, x_name_bad, x_list_bad, x_names, x_no_star, Opens, c_empty, c_word, c_none, c_mixed, c_children, c_bad, Whole, w_good, w_bad, w_left}
 use Rattle.grammar.proofs.Tokens.{tok_joins, joins_close, mark_tok, hash_byte}
 use Rattle.grammar.specs.Refusals.{Refutes, RefusedAt}
 use Rattle.grammar.proofs.First.{begun}
@@ -115,7 +115,7 @@ Compared t n (rest g) d i j w ns = (e c : ℕ) (o : Outcome) → Reads t (onward
 
 compare_body : (t : List ℕ) (n x : ℕ) (g : Chain) {i b k j e c : ℕ} {w v : List ℕ} {ns ms : List (List ℕ)} {o : Outcome} →
     While white t i b → Compared t n cp x b k w ns → Closed t k →
-    ((l : ℕ) → Longest white t k l → chainOf (tok t l) ≡ g) → Compared t n (rest g) x k j v ms → Reads t body e i c o →
+    ((l : ℕ) → Longest white t k l → chain_of_tok (tok t l) ≡ g) → Compared t n (rest g) x k j v ms → Reads t body e i c o →
     Agrees n x e c o j (w ++ v) (ns ++ ms)
 compare_body t n x g {i} {b} {k} {j} {e} {c} {w} {v} {ns} {ms} a p cl ch q (b_bad {k = y} {f = f} r) = agrees_first n x e c j w v ns ms f y (p i e c (bad f y) a r cl)
 compare_body t n x g {i} {b} {k} {j} {e} {c} {w} {v} {ns} {ms} a p cl ch q (b_goes_on {k = k'} {l = l} {x = y} {w = w'} {ns = ns'} {g = g'} {o = o'} r u h z q') =
@@ -152,14 +152,14 @@ compare_next t n d g {i} {l} {b} {k} {j} {e} {c} {w} {v} {ns} {ms} a s u p cl q 
 compare_next t n d g {i} {l} a s u p cl q (o_none a' x y) = absurd (not_both (ap (λ (z : ℕ). joins g (tok t z)) (same a a' (sign_black (get_or t l 0) g s)) ∙ tok_joins t l g s) y)
 
 choice_chain : (t : List ℕ) {k l : ℕ} → While white t k l → get_or t l 0 ≡ 124 → (l' : ℕ) → Longest white t k l' →
-    chainOf (tok t l') ≡ Choice
-choice_chain t {k} {l} a e l' u = ap (λ (y : ℕ). chainOf (tok t y)) (same a u (ap white e)) ∙ ap chainOf (tok_bar t l e)
+    chain_of_tok (tok t l') ≡ Choice
+choice_chain t {k} {l} a e l' u = ap (λ (y : ℕ). chain_of_tok (tok t y)) (same a u (ap white e)) ∙ ap chain_of_tok (tok_bar t l e)
 
 seq_chain : (t : List ℕ) {n d k j : ℕ} {v : List ℕ} {ms : List (List ℕ)} → Is t n (rest Seq) d k j v ms → (l' : ℕ) →
-    Longest white t k l' → chainOf (tok t l') ≡ Seq
+    Longest white t k l' → chain_of_tok (tok t l') ≡ Seq
 seq_chain t r l' u =
     let h = head_rest t r in
-    ⊎_elim (λ e. ap (λ (y : ℕ). chainOf (tok t y)) (same h.1 u (ap white e)) ∙ ap chainOf (tok_close t h.0 e)) (λ e. ap (λ (y : ℕ). chainOf (tok t y)) (same h.1 u (ap white e)) ∙ ap chainOf (tok_comma t h.0 e)) h.2
+    ⊎_elim (λ e. ap (λ (y : ℕ). chain_of_tok (tok t y)) (same h.1 u (ap white e)) ∙ ap chain_of_tok (tok_close t h.0 e)) (λ e. ap (λ (y : ℕ). chain_of_tok (tok t y)) (same h.1 u (ap white e)) ∙ ap chain_of_tok (tok_comma t h.0 e)) h.2
 
 complete : {t : List ℕ} {n : ℕ} {s : Sym} {d i j : ℕ} {w : List ℕ} {ns : List (List ℕ)} → Is t n s d i j w ns →
     Compared t n s d i j w ns

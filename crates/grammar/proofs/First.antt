@@ -4,7 +4,7 @@ use Rattle.std.proofs.lemmas.List.{get_or-take, get_or_at, get_or_append_left, d
 use Rattle.std.proofs.str.Laws.{order}
 use Rattle.symbols.specs.Rule.{start, inner}
 use Rattle.tokens.specs.Bytes.{white}
-use Rattle.tokens.specs.Tokens.{word, pcdata, opens, closes, bar, query, star, plus, tok, While, stop, on, Longest, slice, pcdataAt}
+use Rattle.tokens.specs.Tokens.{word, pcdata, opens, closes, bar, query, star, plus, tok, While, stop, on, Longest, slice, pcdata_at}
 use Rattle.tokens.proofs.Runs.{while_le, same_run, run_inside}
 use Rattle.tokens.proofs.Signs.{byte_inside, tok_says}
 use Rattle.grammar.specs.declared.Chain.{Chain}
@@ -334,8 +334,8 @@ list_after t e i l q w ns (good j v ms) b s n p a r = λ h. let x = a (omega ari
 list_after t e i l q w ns (bad f k) b s n p a r = λ h. let x = a (omega arith) in list_rest t e i l k q w ns b s p x.0 (r x.1)
 
 pub sign_byte : (t : List ℕ) (l : ℕ) (g : Chain) → joins g (tok t l) ≡ true → (get_or t l 0 ≡ sign g) × (l < length t)
-sign_byte t l Choice e = let b = joined Choice (tok t l) (get_or t l 0) (pcdataAt t l) e (tok_says t l (tok t l) refl) in (b, byte_inside t l 124 b (omega arith))
-sign_byte t l Seq e = let b = joined Seq (tok t l) (get_or t l 0) (pcdataAt t l) e (tok_says t l (tok t l) refl) in (b, byte_inside t l 44 b (omega arith))
+sign_byte t l Choice e = let b = joined Choice (tok t l) (get_or t l 0) (pcdata_at t l) e (tok_says t l (tok t l) refl) in (b, byte_inside t l 124 b (omega arith))
+sign_byte t l Seq e = let b = joined Seq (tok t l) (get_or t l 0) (pcdata_at t l) e (tok_says t l (tok t l) refl) in (b, byte_inside t l 44 b (omega arith))
 
 close_in : (t : List ℕ) (i l : ℕ) → Longest white t i l → tok t l ≡ closes → (i < l + 1) × (l + 1 ≤ length t)
 close_in t i l a s = (omega (arith, while_le a.run), omega (arith, byte_inside t l 41 (tok_says t l closes s) (omega arith)))

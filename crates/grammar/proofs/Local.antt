@@ -9,12 +9,12 @@ use Rattle.tokens.proofs.Signs.{byte_inside, tok_says, tok_word, tok_pcdata, tok
 use Rattle.grammar.specs.declared.Chain.{Chain}
 use Rattle.grammar.specs.declared.Chain.TheVariants.{Choice, Seq}
 use Rattle.grammar.specs.Grammar.{code, MarkOf}
-use Rattle.grammar.specs.Reads.{Cause, cannot, joins, chainOf, Mark, none, one, Outcome, good, bad, after, Part, particle, body, onward, named, listed, Reads, p_name, p_long, p_many, p_deep, p_group, p_group_bad, p_none, b_bad, b_goes_on, o_done, o_bad, o_next, o_none, n_name, n_long, n_many, n_none, l_done, l_bad, l_next, l_none, Mixes, x_text, x_star, x_none, x_name_bad, x_list_bad, x_names, x_no_star, Opens, c_empty, c_word, c_none, c_mixed, c_children, c_bad, Whole, w_bad, w_left}
+use Rattle.grammar.specs.Reads.{Cause, cannot, joins, chain_of_tok, Mark, none, one, Outcome, good, bad, after, Part, particle, body, onward, named, listed, Reads, p_name, p_long, p_many, p_deep, p_group, p_group_bad, p_none, b_bad, b_goes_on, o_done, o_bad, o_next, o_none, n_name, n_long, n_many, n_none, l_done, l_bad, l_next, l_none, Mixes, x_text, x_star, x_none, x_name_bad, x_list_bad, x_names, x_no_star, Opens, c_empty, c_word, c_none, c_mixed, c_children, c_bad, Whole, w_bad, w_left}
 use Rattle.grammar.proofs.Tokens.{chain_bar, tok_joins, mark_tok, mark_byte, take_begins, slice_at, pcdata_slice, hash_byte}
 use Rattle.grammar.specs.Refusals.{Alike}
 use Rattle.grammar.proofs.First.{Front, Viable, while_move, viable, mix_viable, name_in, bar_in, sign_byte, pcdata_in, open_in, open_viable}
 
-not_bar : (k : Tok) → (k ≡ bar → ⊥) → chainOf k ≡ Seq
+not_bar : (k : Tok) → (k ≡ bar → ⊥) → chain_of_tok k ≡ Seq
 not_bar word f = refl
 not_bar pcdata f = refl
 not_bar opens f = refl
@@ -69,12 +69,12 @@ module _ (t t' : List ℕ) (k : ℕ) (a : Alike t t' k) (fr : Front t t' k) wher
   joins' : (g : Chain) (b : ℕ) → b ≤ k → joins g (tok t b) ≡ true → joins g (tok t' b) ≡ true
   joins' g b h s = tok_joins t' b g (a.same b h ∙ (sign_byte t b g s).0)
 
-  chain' : (l : ℕ) → l ≤ k → chainOf (tok t l) ≡ chainOf (tok t' l)
-  chain' l h = go (chainOf (tok t l)) refl
+  chain' : (l : ℕ) → l ≤ k → chain_of_tok (tok t l) ≡ chain_of_tok (tok t' l)
+  chain' l h = go (chain_of_tok (tok t l)) refl
     where
-      go : (g : Chain) → g ≡ chainOf (tok t l) → chainOf (tok t l) ≡ chainOf (tok t' l)
-      go Choice e = ap chainOf (chain_bar (tok t l) e ∙ sym (bar' l h (chain_bar (tok t l) e)))
-      go Seq e = sym e ∙ sym (not_bar (tok t' l) (λ s. let b = tok_bar t l (sym (a.same l h) ∙ tok_says t' l bar s) in let z : Seq ≡ Choice = e ∙ ap chainOf b in let y : ◌≡◌ {A = ℕ} 0 1 = cc in omega arith))
+      go : (g : Chain) → g ≡ chain_of_tok (tok t l) → chain_of_tok (tok t l) ≡ chain_of_tok (tok t' l)
+      go Choice e = ap chain_of_tok (chain_bar (tok t l) e ∙ sym (bar' l h (chain_bar (tok t l) e)))
+      go Seq e = sym e ∙ sym (not_bar (tok t' l) (λ s. let b = tok_bar t l (sym (a.same l h) ∙ tok_says t' l bar s) in let z : Seq ≡ Choice = e ∙ ap chain_of_tok b in let y : ◌≡◌ {A = ℕ} 0 1 = cc in omega arith))
 
   mark' : {i j : ℕ} {m : List ℕ} → Mark t i j m → i ≤ k → Mark t' i j m
   mark' {i} (none f) h = none (λ m x. f m (mark_tok t i (subst (λ (b : ℕ). MarkOf b m) (a.same i h) (mark_byte t' i x))))
@@ -112,7 +112,7 @@ module _ (t t' : List ℕ) (k : ℕ) (a : Alike t t' k) (fr : Front t t' k) wher
 
   body_moves : (e i c q l x : ℕ) (w : List ℕ) (ns : List (List ℕ)) (g : Chain) (o : Outcome) →
       Moves particle e i c (good q w ns) → Viable t particle e i (good q w ns) → Longest white t q l →
-      g ≡ chainOf (tok t l) → x ≡ c + length ns → Later l o → Viable t (onward g) e q o → Moves (onward g) e q x o →
+      g ≡ chain_of_tok (tok t l) → x ≡ c + length ns → Later l o → Viable t (onward g) e q o → Moves (onward g) e q x o →
       Moves body e i c (after w ns o)
   body_moves e i c q l x w ns g (good j v ms) p n u h z m y r = λ le jk. let d = n le in let f = y d.1 in b_goes_on (p le (omega (arith, f.0))) (move u (omega arith)) (h ∙ chain' l (omega arith)) z (r d.1 jk)
   body_moves e i c q l x w ns g (bad f y) p n u h z m v r = λ le yk. let d = n le in let o = v d.1 in b_goes_on (p le (omega (arith, o.on'))) (move u (omega arith)) (h ∙ chain' l (omega arith)) z (r d.1 yk)

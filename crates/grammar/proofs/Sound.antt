@@ -3,13 +3,13 @@ use Rattle.std.proofs.Common.{◌≡◌, ℕ, ◌+◌, ◌≤◌, true, ◌⊎�
 use Rattle.std.proofs.str.Laws.{order}
 use Rattle.symbols.specs.Rule.{inner}
 use Rattle.tokens.specs.Bytes.{white}
-use Rattle.tokens.specs.Tokens.{word, pcdata, opens, closes, bar, star, end, tok, While, Longest, slice, pcdataAt}
+use Rattle.tokens.specs.Tokens.{word, pcdata, opens, closes, bar, star, end, tok, While, Longest, slice, pcdata_at}
 use Rattle.tokens.proofs.Runs.{run_inside}
 use Rattle.tokens.proofs.Signs.{tok_says}
 use Rattle.grammar.specs.declared.Chain.{Chain}
 use Rattle.grammar.specs.declared.Chain.TheVariants.{Choice, Seq}
 use Rattle.grammar.specs.Grammar.{code, Name, Marks, unmarked, with_mark, cp, choice, seq, rest, Is, cp_name, cp_choice, cp_seq, is_choice, is_seq, rest_done, rest_next, Listed, listed_done, listed_next, Mixed, text_alone, text_star, text_names, ContentSpec, empty, mixed, children_choice, children_seq, Model}
-use Rattle.grammar.specs.Reads.{joins, chainOf, Mark, none, one, Outcome, good, bad, after, Part, particle, body, onward, named, listed, Reads, p_name, p_long, p_many, p_deep, p_group, p_group_bad, p_none, b_bad, b_goes_on, o_done, o_bad, o_next, o_none, n_name, n_long, n_many, n_none, l_done, l_bad, l_next, l_none, Mixes, x_text, x_star, x_none, x_name_bad, x_list_bad, x_names, x_no_star, Opens, c_empty, c_word, c_none, c_mixed, c_children, c_bad, Whole, w_good}
+use Rattle.grammar.specs.Reads.{joins, chain_of_tok, Mark, none, one, Outcome, good, bad, after, Part, particle, body, onward, named, listed, Reads, p_name, p_long, p_many, p_deep, p_group, p_group_bad, p_none, b_bad, b_goes_on, o_done, o_bad, o_next, o_none, n_name, n_long, n_many, n_none, l_done, l_bad, l_next, l_none, Mixes, x_text, x_star, x_none, x_name_bad, x_list_bad, x_names, x_no_star, Opens, c_empty, c_word, c_none, c_mixed, c_children, c_bad, Whole, w_good}
 use Rattle.grammar.proofs.Tokens.{joined, chain_bar, mark_byte, pcdata_slice, slice_end, inside_not}
 
 pub sound_mark : {t : List ℕ} {i j : ℕ} {m : List ℕ} → Mark t i j m → Marks t i j m
@@ -39,7 +39,7 @@ sound_group t e x i b k j w m ns a ex (inl r) mk = (b, a, cp_choice (subst (λ (
 sound_group t e x i b k j w m ns a ex (inr r) mk = (b, a, cp_seq (subst (λ (y : ℕ). Is t 32 seq y b k w ns) (sym ex) r) mk)
 
 sound_body : (t : List ℕ) (e i k l : ℕ) (w : List ℕ) (ns : List (List ℕ)) (g : Chain) (o : Outcome) →
-    Stands t particle e i (good k w ns) → While white t k l → g ≡ chainOf (tok t l) → Stands t (onward g) e k o →
+    Stands t particle e i (good k w ns) → While white t k l → g ≡ chain_of_tok (tok t l) → Stands t (onward g) e k o →
     Stands t body e i (after w ns o)
 sound_body t e i k l w ns Choice (good j v ms) p u c q = λ x ix br. inl (is_choice br refl (subst (λ (y : ℕ). While white t y p.0) ix p.1) p.2 u (tok_says t l bar (chain_bar (tok t l) c)) q)
 sound_body t e i k l w ns Seq (good j v ms) p u c q = λ x ix br. inr (is_seq br refl (subst (λ (y : ℕ). While white t y p.0) ix p.1) p.2 q)
@@ -49,7 +49,7 @@ sound_body t e i k l w ns Seq (bad f y) p u c q = tt
 sound_next : (t : List ℕ) (e i k l : ℕ) (w : List ℕ) (ns : List (List ℕ)) (g : Chain) (o : Outcome) → While white t i l →
     joins g (tok t l) ≡ true → Stands t particle e (l + 1) (good k w ns) → Stands t (onward g) e k o →
     Stands t (onward g) e i (after (w ++ (code g ∷ [])) ns o)
-sound_next t e i k l w ns g (good j v ms) a s p q = rest_next a (joined g (tok t l) (get_or t l 0) (pcdataAt t l) s (tok_says t l (tok t l) refl)) p.1 p.2 q
+sound_next t e i k l w ns g (good j v ms) a s p q = rest_next a (joined g (tok t l) (get_or t l 0) (pcdata_at t l) s (tok_says t l (tok t l) refl)) p.1 p.2 q
 sound_next t e i k l w ns g (bad f y) a s p q = tt
 
 sound_listed : (t : List ℕ) (e i k l : ℕ) (w : List ℕ) (ns : List (List ℕ)) (o : Outcome) → While white t i l →

@@ -1,11 +1,11 @@
 -- Tokens, and what stands where they do. Assumes nothing.
-use Rattle.std.proofs.Common.{◌≡◌, ℕ, ◌+◌, ◌-◌, ◌<◌, ◌≤◌, Bool, true, false, cond, eqb, ◌⊎◌, List, [], ◌∷◌, length, get_or, take, drop, codes, sym, refl, ap, ◌∙◌, ⊎_elim, arith, length-drop, length-take-le}
+use Rattle.std.proofs.Common.{◌≡◌, ℕ, ◌+◌, ◌-◌, ◌<◌, ◌≤◌, Bool, true, false, cond, eqb, List, [], ◌∷◌, length, get_or, take, drop, codes, sym, refl, ap, ◌∙◌, ⊎_elim, arith, length-drop, length-take-le}
 use Rattle.std.proofs.lemmas.List.{get_or_past, get_or-take, get_or-drop}
 use Rattle.std.proofs.lemmas.Bool.Decides.{nat_tests}
 use Rattle.std.proofs.str.Laws.{order}
 use Rattle.symbols.specs.Rule.{start, inner}
 use Rattle.tokens.specs.Bytes.{class_of}
-use Rattle.tokens.specs.Tokens.{Tok, word, pcdata, opens, closes, bar, comma, query, star, plus, stray, strange, end, tok, While, slice, begins, pcdataAt, byClass}
+use Rattle.tokens.specs.Tokens.{Tok, word, pcdata, opens, closes, bar, comma, query, star, plus, stray, strange, end, tok, While, slice, begins, pcdata_at, by_class}
 use Rattle.tokens.specs.declared.types.Class.{Class}
 use Rattle.tokens.specs.declared.types.Class.TheVariants.{NameStart, NameOnly, White, Open, Close, Bar, Comma, Query, Star, Plus, Hash, Other}
 use Rattle.tokens.proofs.Runs.{not_both, run_inside, tok_in}
@@ -13,7 +13,7 @@ use Rattle.tokens.proofs.Signs.{Says, tok_says, tok_bar, tok_comma, tok_star, to
 use Rattle.grammar.specs.declared.Chain.{Chain}
 use Rattle.grammar.specs.declared.Chain.TheVariants.{Choice, Seq}
 use Rattle.grammar.specs.Grammar.{sign, MarkOf, is_query, is_star, is_plus}
-use Rattle.grammar.specs.Reads.{joins, chainOf, MarkTok, query_4, star_5, plus_6}
+use Rattle.grammar.specs.Reads.{joins, chain_of_tok, MarkTok, query_4, star_5, plus_6}
 
 -- the byte of a sign
 pub joined : (g : Chain) (k : Tok) (b : ℕ) (p : Bool) → joins g k ≡ true → Says k b p → b ≡ sign g
@@ -43,7 +43,7 @@ joined Seq strange b p e s = absurd (not_both e refl)
 joined Seq end b p e s = absurd (not_both e refl)
 
 -- the sign of a choice
-pub chain_bar : (k : Tok) → Choice ≡ chainOf k → k ≡ bar
+pub chain_bar : (k : Tok) → Choice ≡ chain_of_tok k → k ≡ bar
 chain_bar word e = absurd (let z : ◌≡◌ {A = ℕ} 0 1 = cc in omega arith)
 chain_bar pcdata e = absurd (let z : ◌≡◌ {A = ℕ} 0 1 = cc in omega arith)
 chain_bar opens e = absurd (let z : ◌≡◌ {A = ℕ} 0 1 = cc in omega arith)
@@ -149,7 +149,7 @@ hash : (p : Bool) → cond p pcdata stray ≡ end → ⊥
 hash true e = let z : ◌≡◌ {A = ℕ} 0 1 = cc in omega arith
 hash false e = let z : ◌≡◌ {A = ℕ} 0 1 = cc in omega arith
 
-not_end : (k : Class) (p : Bool) → byClass k p ≡ end → ⊥
+not_end : (k : Class) (p : Bool) → by_class k p ≡ end → ⊥
 not_end NameStart p e = let z : ◌≡◌ {A = ℕ} 0 1 = cc in omega arith
 not_end NameOnly p e = let z : ◌≡◌ {A = ℕ} 0 1 = cc in omega arith
 not_end White p e = let z : ◌≡◌ {A = ℕ} 0 1 = cc in omega arith
@@ -164,4 +164,4 @@ not_end Hash p e = hash p e
 not_end Other p e = let z : ◌≡◌ {A = ℕ} 0 1 = cc in omega arith
 
 pub inside_not : (t : List ℕ) (l : ℕ) → l < length t → tok t l ≡ end → ⊥
-inside_not t l h e = not_end (class_of (get_or t l 0)) (pcdataAt t l) (sym (tok_in t l h) ∙ e)
+inside_not t l h e = not_end (class_of (get_or t l 0)) (pcdata_at t l) (sym (tok_in t l h) ∙ e)

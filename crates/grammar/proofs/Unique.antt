@@ -1,5 +1,5 @@
 -- A text has at most one list of codes and one of names. Assumes nothing.
-use Rattle.std.proofs.Common.{◌≡◌, ℕ, ◌+◌, true, false, ◌⊎◌, List, [], ◌∷◌, ◌++◌, get_or, codes, sym, refl, ap, ◌∙◌, subst, ⊎_elim, arith}
+use Rattle.std.proofs.Common.{◌≡◌, ℕ, ◌+◌, true, false, List, [], ◌∷◌, ◌++◌, get_or, codes, sym, refl, ap, ◌∙◌, subst, ⊎_elim, arith}
 use Rattle.symbols.specs.Rule.{start, inner}
 use Rattle.tokens.specs.Bytes.{white}
 use Rattle.tokens.specs.Tokens.{tok, While, slice}

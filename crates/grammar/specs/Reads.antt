@@ -60,19 +60,19 @@ joins Seq strange = false
 joins Seq end = false
 
 -- which chain goes on with this token behind its first particle: a choice has a bar there
-abbrev pub chainOf : Tok → Chain
-chainOf word = Seq
-chainOf pcdata = Seq
-chainOf opens = Seq
-chainOf closes = Seq
-chainOf bar = Choice
-chainOf comma = Seq
-chainOf query = Seq
-chainOf star = Seq
-chainOf plus = Seq
-chainOf stray = Seq
-chainOf strange = Seq
-chainOf end = Seq
+abbrev pub chain_of_tok : Tok → Chain
+chain_of_tok word = Seq
+chain_of_tok pcdata = Seq
+chain_of_tok opens = Seq
+chain_of_tok closes = Seq
+chain_of_tok bar = Choice
+chain_of_tok comma = Seq
+chain_of_tok query = Seq
+chain_of_tok star = Seq
+chain_of_tok plus = Seq
+chain_of_tok stray = Seq
+chain_of_tok strange = Seq
+chain_of_tok end = Seq
 
 -- a token that is a mark, and its code
 pub data MarkTok (k : Tok) (m : ℕ) : Type 0 where
@@ -123,7 +123,7 @@ pub data Reads (t : List ℕ) : Part → ℕ → ℕ → ℕ → Outcome → Typ
   -- the inside of a group: a particle, and what goes on behind it
   b_bad : {e i k c : ℕ} {f : Cause} → Reads t particle e i c (bad f k) → Reads t body e i c (bad f k)
   b_goes_on : {e i k l c x : ℕ} {w : List ℕ} {ns : List (List ℕ)} {g : Chain} {o : Outcome} →
-      Reads t particle e i c (good k w ns) → Longest white t k l → g ≡ chainOf (tok t l) → x ≡ c + length ns →
+      Reads t particle e i c (good k w ns) → Longest white t k l → g ≡ chain_of_tok (tok t l) → x ≡ c + length ns →
       Reads t (onward g) e k x o → Reads t body e i c (after w ns o)
   -- the rest of the inside: the closing bracket, or the sign of the chain, a particle and what goes on behind it
   o_done : {g : Chain} {e i l c : ℕ} → Longest white t i l → tok t l ≡ closes →

@@ -1,5 +1,5 @@
 -- Marked words as chains of states: state 0 is the start, state x is position x.
-use Rattle.std.proofs.Common.{◌≡◌, ℕ, zero, suc, ◌+◌, ◌≤◌, List, [], ◌∷◌, ◌++◌, sym, refl, subst, inl, inr, arith}
+use Rattle.std.proofs.Common.{◌≡◌, ℕ, zero, suc, ◌≤◌, List, [], ◌∷◌, ◌++◌, sym, refl, subst, inl, inr, arith}
 use Rattle.language.specs.Words.{Expr, Marked, Parts}
 use Rattle.language.specs.Sets.{In, Nullable, First, Last, Follow, Run, Local}
 use Rattle.language.proofs.Numbering.{Spans}

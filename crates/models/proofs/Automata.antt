@@ -12,29 +12,29 @@ use Rattle.language.proofs.Reading.{Goes}
 use Rattle.models.specs.declared.tables.Sets.{Sets}
 use Rattle.models.specs.Bitsets.{Bit, bit}
 use Rattle.models.specs.TablesOf.{TablesOf}
-use Rattle.models.specs.Stepping.{nextSet, mayEnd, May, Steps}
+use Rattle.models.specs.Stepping.{set_after, can_end, May, Steps}
 use Rattle.models.proofs.Bitsets.{bit_within}
 
 -- nothing comes after a state past the positions or the rows
-pub next_none : (s : Sets) (rows : List ℕ) (n x : ℕ) → (x ≡ 0 → ⊥) → (n < x) ⊎ (length rows < x) → 0 ≡ nextSet s rows n x
+pub next_none : (s : Sets) (rows : List ℕ) (n x : ℕ) → (x ≡ 0 → ⊥) → (n < x) ⊎ (length rows < x) → 0 ≡ set_after s rows n x
 next_none s rows n zero h k = absurd (h refl)
 next_none s rows n (suc x) h (inl k) = sym (cond-false _ _ _ (le-ltb x n (omega arith)))
 next_none s rows n (suc x) h (inr k) =
     let z = get_or_past rows x 0 (omega arith) in
     elim (cases_lt x n) [ inl l ↦ sym (cond-true _ _ _ (lt-ltb x n l) ∙ z) | inr l ↦ sym (cond-false _ _ _ (le-ltb x n l)) ]
 
-pub ends_past : (s : Sets) (x : ℕ) → 64 < x → mayEnd s x ≡ false
+pub ends_past : (s : Sets) (x : ℕ) → 64 < x → can_end s x ≡ false
 ends_past s zero h = absurd (omega arith)
 ends_past s (suc x) h = ap (λ b. b && bit s.last x) (le-ltb x 64 (omega arith))
 
-pub ends_at : (s : Sets) (x : ℕ) → (x ≡ 0 → ⊥) → x ≤ 64 → mayEnd s x ≡ bit s.last (x - 1)
+pub ends_at : (s : Sets) (x : ℕ) → (x ≡ 0 → ⊥) → x ≤ 64 → can_end s x ≡ bit s.last (x - 1)
 ends_at s zero h k = absurd (h refl)
 ends_at s (suc x) h k =
     let e : x ≡ suc x - 1 = omega arith in
     ap (λ b. b && bit s.last x) (lt-ltb x 64 (omega arith)) ∙ ap (bit s.last) e
 
 -- the least position that the tables allow: `next` is the set of those that may come after the state x
-module _ {S : Type 0} (same : S → S → Bool) (s : Sets) (rows : List ℕ) (xs : List S) (x : ℕ) (a : S) (next : ℕ) (e : next ≡ nextSet s rows (length xs) x) where
+module _ {S : Type 0} (same : S → S → Bool) (s : Sets) (rows : List ℕ) (xs : List S) (x : ℕ) (a : S) (next : ℕ) (e : next ≡ set_after s rows (length xs) x) where
   -- none of the first y positions may come next
   abbrev NoneBelow : ℕ → Type 0
   NoneBelow y = (k : ℕ) → k < y → Bit next k → like same (symbol_at xs (k + 1)) a ≡ true → ⊥
@@ -51,7 +51,7 @@ module _ {S : Type 0} (same : S → S → Bool) (s : Sets) (rows : List ℕ) (xs
   pub step_some : (y : ℕ) → NoneBelow y → Bit next y → like same (symbol_at xs (y + 1)) a ≡ true → Steps same s rows xs x a (Some (y + 1))
   step_some y none b l =
       let q : y ≡ y + 1 - 1 = omega arith in
-      ((subst (λ j. Bit (nextSet s rows (length xs) x) j) q (subst (λ n. Bit n y) e b), l), (λ z p. past y z none p))
+      ((subst (λ j. Bit (set_after s rows (length xs) x) j) q (subst (λ n. Bit n y) e b), l), (λ z p. past y z none p))
 
   pub step_none : (y : ℕ) → NoneBelow y → next < 2 ^ 64 → min (length xs) 64 ≤ y → Steps same s rows xs x a None
   step_none y none below end z p =
@@ -61,16 +61,16 @@ module _ {S : Type 0} (same : S → S → Bool) (s : Sets) (rows : List ℕ) (xs
       omega (arith, i.0, i.1)
 
 module _ {S : Type 0} (same : S → S → Bool) (s : Sets) (rows : List ℕ) (xs : List S) (m : Model S) (t : TablesOf same s rows xs m) where
-  row_at : (x : ℕ) → x < length m.symbols → nextSet s rows (length m.symbols) (suc x) ≡ get_or rows x 0
+  row_at : (x : ℕ) → x < length m.symbols → set_after s rows (length m.symbols) (suc x) ≡ get_or rows x 0
   row_at x h = cond-true _ _ _ (lt-ltb x (length m.symbols) h)
 
-  bit_step : (x k : ℕ) → x ≤ length m.symbols → Bit (nextSet s rows (length m.symbols) x) k → Step (body m) x (k + 1)
+  bit_step : (x k : ℕ) → x ≤ length m.symbols → Bit (set_after s rows (length m.symbols) x) k → Step (body m) x (k + 1)
   bit_step zero k h b = begins_first (body m) (k + 1) ((t.sets.begin k).0 b)
   bit_step (suc x) k h b =
       let f = (t.sets.follow x (omega arith) k).0 (subst (λ a. Bit a k) (row_at x (omega arith)) b) in
       subst (λ i. Follow (body m) i (k + 1)) (add-one x) (follows_follow (body m) (x + 1) (k + 1) f)
 
-  step_bit : (x k : ℕ) → x ≤ length m.symbols → Step (body m) x (k + 1) → Bit (nextSet s rows (length m.symbols) x) k
+  step_bit : (x k : ℕ) → x ≤ length m.symbols → Step (body m) x (k + 1) → Bit (set_after s rows (length m.symbols) x) k
   step_bit zero k h p = (t.sets.begin k).1 (first_begins (body m) (k + 1) p)
   step_bit (suc x) k h p =
       let f = follow_follows (body m) (x + 1) (k + 1) (subst (λ i. Follow (body m) i (k + 1)) (sym (add-one x)) p) in
@@ -92,12 +92,12 @@ module _ {S : Type 0} (same : S → S → Bool) (s : Sets) (rows : List ℕ) (xs
       subst (λ l. May same s rows l x a y) (sym t.symbols) q
 
   -- a word may end in a state exactly when it may in the model
-  pub ends_end : (x : ℕ) → x ≤ length m.symbols → mayEnd s x ≡ true → End (body m) x
+  pub ends_end : (x : ℕ) → x ≤ length m.symbols → can_end s x ≡ true → End (body m) x
   ends_end zero h b = empty_nullable (body m) (t.sets.null.0 b)
   ends_end (suc x) h b =
       subst (Last (body m)) (add-one x) (ends_last (body m) (x + 1) ((t.sets.end x).0 (eqb-true _ 1 (and_parts (ltb x 64) (bit s.last x) b).1)))
 
-  pub end_ends : (x : ℕ) → x ≤ length m.symbols → End (body m) x → mayEnd s x ≡ true
+  pub end_ends : (x : ℕ) → x ≤ length m.symbols → End (body m) x → can_end s x ≡ true
   end_ends zero h b = t.sets.null.1 (whole_empty (body m) b)
   end_ends (suc x) h b =
       let few = t.formed.few in

@@ -5,19 +5,19 @@ use Rattle.models.specs.declared.tables.Sets.{Sets}
 use Rattle.models.specs.Bitsets.{Bit, bit}
 
 -- the positions that may come after a state, of n positions: none after a state past n or past the rows
-abbrev pub nextSet : Sets → List ℕ → ℕ → ℕ → ℕ
-nextSet s rows n zero = s.first
-nextSet s rows n (suc x) = cond (nat_lt x n) (slice_index rows x) 0
+abbrev pub set_after : Sets → List ℕ → ℕ → ℕ → ℕ
+set_after s rows n zero = s.first
+set_after s rows n (suc x) = cond (nat_lt x n) (slice_index rows x) 0
 
 -- whether a word may end in a state: in none past 64
-abbrev pub mayEnd : Sets → ℕ → Bool
-mayEnd s zero = s.nullable
-mayEnd s (suc x) = nat_lt x 64 && bit s.last x
+abbrev pub can_end : Sets → ℕ → Bool
+can_end s zero = s.nullable
+can_end s (suc x) = nat_lt x 64 && bit s.last x
 
 module _ {S : Type 0} (same : S → S → Bool) (s : Sets) (rows : List ℕ) (xs : List S) where
   -- by the tables, position y may come after state x with the symbol a
   abbrev pub May : ℕ → S → ℕ → Type 0
-  May x a y = Bit (nextSet s rows (length xs) x) (y - 1) × (like same (symbol_at xs y) a ≡ true)
+  May x a y = Bit (set_after s rows (length xs) x) (y - 1) × (like same (symbol_at xs y) a ≡ true)
 
   -- the least position that may, or none
   abbrev pub Steps : ℕ → S → Option ℕ → Type 0

@@ -4,7 +4,7 @@
 ghost use Rattle.std.specs.Prelude.{◌≡◌, ◌++◌, length, take, drop};
 ghost use Rattle.language.specs.Meaning.{Model, given};
 ghost use Rattle.models.specs.TablesOf.{TablesOf};
-ghost use Rattle.models.specs.Stepping.{Steps, mayEnd};
+ghost use Rattle.models.specs.Stepping.{Steps, can_end};
 ghost use Rattle.models.specs.Told.{PairTold, SetsTold, StudyTold, TrialTold};
 ghost use Rattle.models.specs.Theorems.{OneAnswer};
 
@@ -88,7 +88,7 @@ pub fn step<S: Symbol>(
 
 /// Whether a word may end in a state.
 pub fn may_end(sets: Sets, state: usize) -> bool
-    ensures { result ≡ mayEnd sets state }
+    ensures { result ≡ can_end sets state }
 {
     if state == 0 {
         sets.nullable

@@ -1,6 +1,6 @@
 // The tables of a model as an automaton, whose state 0 is the start and state x is position x.
 ghost use Rattle.std.specs.Prelude.{◌≡◌};
-ghost use Rattle.models.specs.Stepping.{nextSet};
+ghost use Rattle.models.specs.Stepping.{set_after};
 
 use super::tables::Sets;
 
@@ -13,7 +13,7 @@ pub enum Trial {
 
 /// The positions that may come after a state, of so many positions.
 pub(crate) fn next_set(sets: Sets, followers: &[u64], positions: usize, state: usize) -> u64
-    ensures { result ≡ nextSet sets followers.now positions state }
+    ensures { result ≡ set_after sets followers.now positions state }
 {
     if state == 0 {
         sets.first

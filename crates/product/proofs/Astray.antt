@@ -12,7 +12,7 @@ use Rattle.language.proofs.Reading.{body_spans}
 use Rattle.models.specs.declared.tables.Sets.{Sets}
 use Rattle.models.specs.Bitsets.{Bit}
 use Rattle.models.specs.TablesOf.{TablesOf}
-use Rattle.models.specs.Stepping.{nextSet, mayEnd}
+use Rattle.models.specs.Stepping.{set_after, can_end}
 use Rattle.models.proofs.Automata.{may_goes, goes_may, ends_end, end_ends}
 use Rattle.tables.specs.Tables.{Table, Sound, Alike, takes}
 use Rattle.tables.specs.Words.{Takes}
@@ -20,7 +20,7 @@ use Rattle.tables.proofs.Leading.{takes_decides}
 use Rattle.walk.specs.Order.{Word as Labels}
 use Rattle.walk.specs.Graph.{LabelledGraph, Leads, WantedWord}
 use Rattle.walk.specs.Graph.Leads.{stay as at_rest, step as along}
-use Rattle.product.specs.Pairs.{positions, mayFollow, after, node, product}
+use Rattle.product.specs.Pairs.{positions, can_follow, after, node, product}
 use Rattle.product.specs.PairsSound.{goes_parts, follows_parts, after_within}
 use Rattle.product.proofs.Readings.{run, run_ends, alike_ends}
 
@@ -56,22 +56,22 @@ module _ {S : Type 0} (same : S → S → Bool) {foreign : S → Bool} (laws : K
   spans = body_spans same m T.formed
 
   -- a position may follow by the tables exactly when it may in the model
-  follows_step : (x y : ℕ) → x ≤ n → mayFollow s rows N x y ≡ true → Step e x y
+  follows_step : (x y : ℕ) → x ≤ n → can_follow s rows N x y ≡ true → Step e x y
   follows_step x y h f =
       let p = follows_parts s rows N x y f in
       let le : y ≤ n = omega (arith, p.most, full) in
       let a = symbol_some m.symbols y p.some le in
       let l : like same (symbol_at m.symbols y) a.0 ≡ true = ap (λ o. like same o a.0) a.1 ∙ laws.reflexive a.0 in
-      let b : Bit (nextSet s rows n x) (y - 1) = subst (λ i. Bit (nextSet s rows i x) (y - 1)) full p.set in
+      let b : Bit (set_after s rows n x) (y - 1) = subst (λ i. Bit (set_after s rows i x) (y - 1)) full p.set in
       (may_goes same s rows m.symbols m T x y a.0 h (b, l)).0
 
-  step_follows : (x y : ℕ) → x ≤ n → Step e x y → mayFollow s rows N x y ≡ true
+  step_follows : (x y : ℕ) → x ≤ n → Step e x y → can_follow s rows N x y ≡ true
   step_follows x y h d =
       let r = step_range e n spans x y d in
       let a = symbol_some m.symbols y r.0 r.1 in
       let l : like same (symbol_at m.symbols y) a.0 ≡ true = ap (λ o. like same o a.0) a.1 ∙ laws.reflexive a.0 in
       let b = (goes_may same s rows m.symbols m T x y a.0 h (d, l)).0 in
-      let c : Bit (nextSet s rows N x) (y - 1) = subst (λ i. Bit (nextSet s rows i x) (y - 1)) (sym full) b in
+      let c : Bit (set_after s rows N x) (y - 1) = subst (λ i. Bit (set_after s rows i x) (y - 1)) (sym full) b in
       let le : y ≤ N = omega (arith, r.1, full) in
       and_from _ _ (le-leb 1 y r.0) (and_from _ _ (le-leb y N le) (eq-eqb _ 1 c))
 
@@ -86,7 +86,7 @@ module _ {S : Type 0} (same : S → S → Bool) {foreign : S → Bool} (laws : K
       let a : v / W ≡ x = ap (λ i. i / W) q ∙ digits_div x p in
       let b : v % W ≡ y = ap (λ i. i % W) q ∙ digits_mod x p in
       let i = goes_parts _ _ _ g in
-      let f : Step e x l = follows_step x l h (ap (λ j. mayFollow s rows N j l) (sym a) ∙ i.0) in
+      let f : Step e x l = follows_step x l h (ap (λ j. can_follow s rows N j l) (sym a) ∙ i.0) in
       let u : v' ≡ node t l (after t y (symbol_at m.symbols l)) = sym i.1 ∙ ap (λ j. node t l (after t j (symbol_at m.symbols l))) b in
       let d = forth l (after t y (symbol_at m.symbols l)) (step_range e n spans x l f).1 (after_within t H y (symbol_at m.symbols l)) u r in
       (d.0, (f, d.1), d.2, d.3)
@@ -97,7 +97,7 @@ module _ {S : Type 0} (same : S → S → Bool) {foreign : S → Bool} (laws : K
       let d = back w l (after t y (symbol_at m.symbols l)) u (step_range e n spans x l c.0).1 (after_within t H y (symbol_at m.symbols l)) c.1 in
       let a : (x * W + y) / W ≡ x = digits_div x p in
       let b : (x * W + y) % W ≡ y = digits_mod x p in
-      let g : G.goes (node t x y) l ≡ Some (node t l (after t y (symbol_at m.symbols l))) = rw (a, b) (cond-true (mayFollow s rows N x l) _ _ (step_follows x l h c.0)) in
+      let g : G.goes (node t x y) l ≡ Some (node t l (after t y (symbol_at m.symbols l))) = rw (a, b) (cond-true (can_follow s rows N x l) _ _ (step_follows x l h c.0)) in
       (along g d.0, d.1)
 
   start_within : t.start < W
@@ -114,7 +114,7 @@ module _ {S : Type 0} (same : S → S → Bool) {foreign : S → Bool} (laws : K
       let le : h.0 ≤ n = chain_within e n spans w 0 h.0 (omega arith) h.1 in
       let c = and_parts _ _ (and_parts _ _ d.2).1 in
       let z : takes t (spelled m.symbols w) ≡ false = sym (ran_takes w h.0 h.1) ∙ ap t.ending (sym b) ∙ not-true _ c.1 in (
-        chain_marked e n spans w h.0 h.1 (ends_end same s rows m.symbols m T h.0 le (ap (mayEnd s) (sym a) ∙ c.0)),
+        chain_marked e n spans w h.0 h.1 (ends_end same s rows m.symbols m T h.0 le (ap (can_end s) (sym a) ∙ c.0)),
         λ q. both_ways _ z ((takes_decides t (spelled m.symbols w)).1 q),
       )
 

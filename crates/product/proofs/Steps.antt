@@ -5,7 +5,7 @@ use Rattle.language.specs.Meaning.{symbol_at}
 use Rattle.language.proofs.Symbols.{symbol_is}
 use Rattle.models.specs.declared.tables.Sets.{Sets}
 use Rattle.tables.specs.Tables.{Table, Sound}
-use Rattle.product.specs.Pairs.{positions, mayFollow, after, product}
+use Rattle.product.specs.Pairs.{positions, can_follow, after, product}
 use Rattle.product.specs.PairsSound.{follows_parts, after_within}
 
 -- the reader's state after the symbol of position y, which was read as a
@@ -19,7 +19,7 @@ after_read t xs k y a o some most read goes =
 module _ {S : Type 0} (s : Sets) (rows : List ℕ) (xs : List S) (t : Table S) (v y next : ℕ) where
   -- position y leads from node v to its pair, where the code has the number n of positions and the number k of the reader's states
   abbrev LeadsTo : ℕ → ℕ → Type 0
-  LeadsTo n k = true ≡ mayFollow s rows n (v / (k + 1)) y → next ≡ after t (v % (k + 1)) (symbol_at xs y) → Some (y * (k + 1) + next) ≡ (product s rows xs t).goes v y
+  LeadsTo n k = true ≡ can_follow s rows n (v / (k + 1)) y → next ≡ after t (v % (k + 1)) (symbol_at xs y) → Some (y * (k + 1) + next) ≡ (product s rows xs t).goes v y
 
   leads_exactly : LeadsTo (positions xs) t.states
   leads_exactly f q = sym (cond-true _ _ _ (sym f) ∙ ap (λ i. Some (y * (t.states + 1) + i)) (sym q))
@@ -28,7 +28,7 @@ module _ {S : Type 0} (s : Sets) (rows : List ℕ) (xs : List S) (t : Table S) (
   leads_to n k en ek = subst (λ i. LeadsTo i k) (sym en) (subst (λ i. LeadsTo (positions xs) i) (sym ek) leads_exactly)
 
 -- The code has the number n of positions, and position y may come after a state x of the model.
-module _ {S : Type 0} (s : Sets) (rows : List ℕ) (xs : List S) (n x y : ℕ) (en : n ≡ positions xs) (f : true ≡ mayFollow s rows n x y) where
+module _ {S : Type 0} (s : Sets) (rows : List ℕ) (xs : List S) (n x y : ℕ) (en : n ≡ positions xs) (f : true ≡ can_follow s rows n x y) where
   -- the position has a symbol
   pub has_symbol : (1 ≤ y) × (y ≤ length xs)
   has_symbol = let p = follows_parts s rows n x y (sym f) in let most : y ≤ length xs = omega (arith, p.most, en) in (p.some, most)

@@ -4,7 +4,7 @@ use Rattle.std.specs.Option.{unwrap_or}
 use Rattle.language.specs.Meaning.{symbol_at}
 use Rattle.models.specs.declared.tables.Sets.{Sets}
 use Rattle.models.specs.Bitsets.{bit}
-use Rattle.models.specs.Stepping.{nextSet, mayEnd}
+use Rattle.models.specs.Stepping.{set_after, can_end}
 use Rattle.tables.specs.Tables.{Table}
 use Rattle.walk.specs.Graph.{LabelledGraph}
 
@@ -13,8 +13,8 @@ abbrev pub positions : {S : Type 0} → List S → ℕ
 positions xs = min (length xs) 64
 
 -- whether position y may come after state x of the model, of n positions
-abbrev pub mayFollow : Sets → List ℕ → ℕ → ℕ → ℕ → Bool
-mayFollow s rows n x y = nat_le 1 y && (nat_le y n && bit (nextSet s rows n x) (y - 1))
+abbrev pub can_follow : Sets → List ℕ → ℕ → ℕ → ℕ → Bool
+can_follow s rows n x y = nat_le 1 y && (nat_le y n && bit (set_after s rows n x) (y - 1))
 
 module _ {S : Type 0} (t : Table S) where
   -- the reader's state after a symbol, from state y; where the symbol does not lead on, the reader is stuck, which counts as the state past its last
@@ -27,12 +27,12 @@ module _ {S : Type 0} (t : Table S) where
   node x y = x * (t.states + 1) + y
 
   -- the model's state of a node
-  abbrev pub modelState : ℕ → ℕ
-  modelState v = v / (t.states + 1)
+  abbrev pub model_state : ℕ → ℕ
+  model_state v = v / (t.states + 1)
 
   -- the reader's state of a node
-  abbrev pub readerState : ℕ → ℕ
-  readerState v = v % (t.states + 1)
+  abbrev pub reader_state : ℕ → ℕ
+  reader_state v = v % (t.states + 1)
 
 -- The product graph: position y leads from a pair to y beside the reader's state after the symbol of y, wherever y may come next in the model.
 -- So it leads on where the reader is stuck. The start is state 0 of the model beside the reader's start. Wanted are the pairs in which a word of the model may end and the reader does not.
@@ -42,6 +42,6 @@ product s rows xs t =
       nodes = (positions xs + 1) * (t.states + 1);
       labels = positions xs;
       start = t.start;
-      goes = λ v y. cond (mayFollow s rows (positions xs) (modelState t v) y) (Some (node t y (after t (readerState t v) (symbol_at xs y)))) None;
-      wanted = λ v. nat_le (modelState t v) (positions xs) && (mayEnd s (modelState t v) && not (t.ending (readerState t v)));
+      goes = λ v y. cond (can_follow s rows (positions xs) (model_state t v) y) (Some (node t y (after t (reader_state t v) (symbol_at xs y)))) None;
+      wanted = λ v. nat_le (model_state t v) (positions xs) && (can_end s (model_state t v) && not (t.ending (reader_state t v)));
     }

@@ -1,8 +1,8 @@
 // The product graph: a state of a model beside a state of a reader.
 ghost use Rattle.std.specs.Prelude.{◌≡◌, ◌≤◌, length};
 ghost use Rattle.language.specs.Meaning.{symbol_at};
-ghost use Rattle.models.specs.Stepping.{nextSet};
-ghost use Rattle.product.specs.Pairs.{positions, mayFollow, after, product};
+ghost use Rattle.models.specs.Stepping.{set_after};
+ghost use Rattle.product.specs.Pairs.{positions, can_follow, after, product};
 ghost use Rattle.product.specs.PairsSound.{product_sound};
 
 use codes::MOST_SYMBOLS;
@@ -21,7 +21,7 @@ fn positions<S>(symbols: &[S]) -> usize
 
 /// The positions that may come after a state of the model, of so many positions.
 fn next_set(sets: Sets, followers: &[u64], positions: usize, state: usize) -> u64
-    ensures { result ≡ nextSet sets followers.now positions state }
+    ensures { result ≡ set_after sets followers.now positions state }
 {
     if state == 0 {
         sets.first
@@ -41,7 +41,7 @@ fn may_follow(
     position: usize,
 ) -> bool
     requires { positions ≤ 64 }
-    ensures { result ≡ mayFollow sets followers.now positions state position }
+    ensures { result ≡ can_follow sets followers.now positions state position }
 {
     let next = next_set(sets, followers, positions, state);
     1 <= position && position <= positions && (next >> (position - 1)) % 2 == 1

@@ -12,7 +12,7 @@ use Rattle.models.specs.Told.{Flawed, refused, ambiguous}
 use Rattle.models.proofs.Answered.{one_answer}
 use Rattle.shelf.specs.declared.records.Record.{Record}
 use Rattle.shelf.specs.declared.records.Record.TheVariants.{Empty, Taken}
-use Rattle.shelf.specs.Places.{State, placed, recordAt, is_taken, has, HoldsAt}
+use Rattle.shelf.specs.Places.{State, placed, record_at, is_taken, has, HoldsAt}
 use Rattle.shelf.specs.Calls.{Done, Judges, LoadEnds, Unchanged, Freed, Put, WithdrawWrites, LoadWrites, TriesAt}
 use Rattle.shelf.specs.Theorems.{SameRecord, SameState, OneAnswer}
 use Rattle.shelf.proofs.Refining.{ok_err}
@@ -52,11 +52,11 @@ module _ {S : Type 0} (same : S → S → Bool) where
   equal_records x y e = subst (SameRecord same x) e (own_record x)
 
   -- the same record at p, and the others as they were
-  by_place : (s t u : State S) (p : ℕ) → SameRecord same (recordAt t.shelf p) (recordAt u.shelf p)
-      → ((q : ℕ) → (q ≡ p → ⊥) → recordAt t.shelf q ≡ recordAt s.shelf q) → ((q : ℕ) → (q ≡ p → ⊥) → recordAt u.shelf q ≡ recordAt s.shelf q)
-      → (q : ℕ) → SameRecord same (recordAt t.shelf q) (recordAt u.shelf q)
+  by_place : (s t u : State S) (p : ℕ) → SameRecord same (record_at t.shelf p) (record_at u.shelf p)
+      → ((q : ℕ) → (q ≡ p → ⊥) → record_at t.shelf q ≡ record_at s.shelf q) → ((q : ℕ) → (q ≡ p → ⊥) → record_at u.shelf q ≡ record_at s.shelf q)
+      → (q : ℕ) → SameRecord same (record_at t.shelf q) (record_at u.shelf q)
   by_place s t u p here f g q =
-      ⊎_elim (λ e. subst (λ x. SameRecord same (recordAt t.shelf x) (recordAt u.shelf x)) (sym e) here) (λ ne. equal_records _ _ (f q ne ∙ sym (g q ne))) (cases_eq q p)
+      ⊎_elim (λ e. subst (λ x. SameRecord same (record_at t.shelf x) (record_at u.shelf x)) (sym e) here) (λ ne. equal_records _ _ (f q ne ∙ sym (g q ne))) (cases_eq q p)
 
   unchanged_once : (s t u : State S) → Unchanged s t → Unchanged s u → SameState same t u
   unchanged_once s t u h k = record {
@@ -83,7 +83,7 @@ module _ {S : Type 0} (same : S → S → Bool) where
       let sets : h.kept.sets ≡ k.kept.sets = let e = one.0 in cc in
       let here : SameRecord same (Taken h.kept) (Taken k.kept) = (h.tells.count ∙ sym k.tells.count, sets) in
       record {
-        shelf = by_place s t u p (subst (λ x. SameRecord same x (recordAt u.shelf p)) (sym h.here) (subst (SameRecord same (Taken h.kept)) (sym k.here) here)) h.others k.others;
+        shelf = by_place s t u p (subst (λ x. SameRecord same x (record_at u.shelf p)) (sym h.here) (subst (SameRecord same (Taken h.kept)) (sym k.here) here)) h.others k.others;
         symbols = h.symbols ∙ sym k.symbols;
         numbers = h.numbers ∙ ap (placed s.numbers p) one.1 ∙ sym k.numbers;
       }
@@ -111,7 +111,7 @@ module _ {S : Type 0} (same : S → S → Bool) where
 
   pub one_call : OneAnswer same
   one_call = record {
-    loads = λ s t u p m r q h k. let e = one_end (has s p) (is_taken (recordAt s.shelf p)) p m r q h.ends k.ends in (e, loaded_once s t u p m r q e h.writes k.writes);
+    loads = λ s t u p m r q h k. let e = one_end (has s p) (is_taken (record_at s.shelf p)) p m r q h.ends k.ends in (e, loaded_once s t u p m r q e h.writes k.writes);
     withdraws = λ s t u p r q h k. let e = h.ends ∙ sym k.ends in (e, withdrawn_once s t u p r q e h.writes k.writes);
-    tries = λ s p word k r q h f g. tried_once (has s p) (recordAt s.shelf p) p s.symbols s.numbers word k r q h f g;
+    tries = λ s p word k r q h f g. tried_once (has s p) (record_at s.shelf p) p s.symbols s.numbers word k r q h f g;
   }

@@ -15,7 +15,7 @@ use Rattle.models.proofs.Automata.{may_goes, goes_may, ends_end, end_ends}
 use Rattle.tables.specs.Tables.{Table}
 use Rattle.shelf.specs.declared.records.Record.{Record}
 use Rattle.shelf.specs.declared.records.Record.TheVariants.{Empty, Taken}
-use Rattle.shelf.specs.Places.{front, recordAt, HoldsAt}
+use Rattle.shelf.specs.Places.{front, record_at, HoldsAt}
 use Rattle.shelf.specs.Calls.{TakesJust}
 use Rattle.shelf.specs.Theorems.{Agree, OneOf, OneContent}
 
@@ -84,4 +84,4 @@ module _ {S : Type 0} (same : S → S → Bool) {foreign : S → Bool} (laws : K
   held_once (Taken t) ss ns p (Some m) (Some n) h g = agree same laws t.sets (front ns p t.count) (front ss p t.count) m n h.1.tables g.1.tables
 
   pub one_content : OneContent same
-  one_content s p k l h g = held_once (recordAt s.shelf p) s.symbols s.numbers p k l h g
+  one_content s p k l h g = held_once (record_at s.shelf p) s.symbols s.numbers p k l h g

@@ -10,7 +10,7 @@ use Rattle.language.proofs.Reading as reading
 use Rattle.models.specs.declared.tables.Sets.{Sets}
 use Rattle.models.specs.Bitsets.{Bit}
 use Rattle.models.specs.TablesOf.{TablesOf}
-use Rattle.models.specs.Stepping.{nextSet, mayEnd, May, Steps}
+use Rattle.models.specs.Stepping.{set_after, can_end, May, Steps}
 use Rattle.models.proofs.Automata.{may_goes, goes_may, ends_end, end_ends}
 use Rattle.models.proofs.Answered.{one_answer}
 use Rattle.tables.specs.Tables.{Table}
@@ -19,11 +19,11 @@ use Rattle.tables.specs.Words.{Leads, stays, steps, Takes}
 use Rattle.tables.specs.Least.{NoneBelow, Least}
 use Rattle.tables.proofs.Leasts.{sought_is}
 
-like_getD : {S : Type 0} (same : S → S → Bool) (xs : List S) (k : ℕ) (a d : S) → k < length xs → like same (symbol_at xs (k + 1)) a ≡ same (get_or xs k d) a
-like_getD same [] k a d h = absurd (omega arith)
-like_getD same (b ∷ xs) zero a d h = refl
-like_getD same (b ∷ xs) (suc k) a d h =
-    ap (λ j. like same (symbol_at (b ∷ xs) j) a) (add-one (suc k)) ∙ sym (ap (λ j. like same (symbol_at xs j) a) (add-one k)) ∙ like_getD same xs k a d (omega arith)
+like_get_or : {S : Type 0} (same : S → S → Bool) (xs : List S) (k : ℕ) (a d : S) → k < length xs → like same (symbol_at xs (k + 1)) a ≡ same (get_or xs k d) a
+like_get_or same [] k a d h = absurd (omega arith)
+like_get_or same (b ∷ xs) zero a d h = refl
+like_get_or same (b ∷ xs) (suc k) a d h =
+    ap (λ j. like same (symbol_at (b ∷ xs) j) a) (add-one (suc k)) ∙ sym (ap (λ j. like same (symbol_at xs j) a) (add-one k)) ∙ like_get_or same xs k a d (omega arith)
 
 -- the table goes by the sets and the followers
 module _ {S : Type 0} (same : S → S → Bool) (s : Sets) (rows : List ℕ) (xs : List S) where
@@ -33,7 +33,7 @@ module _ {S : Type 0} (same : S → S → Bool) (s : Sets) (rows : List ℕ) (xs
   abbrev row : ℕ → ℕ
   row x = row_of s.first rows (min 64 (length xs)) x
 
-  row_next : (x : ℕ) → row x ≡ nextSet s rows (length (take 64 xs)) x
+  row_next : (x : ℕ) → row x ≡ set_after s rows (length (take 64 xs)) x
   row_next zero = refl
   row_next (suc x) = cond-false _ _ _ (ne_eqb (suc x) 0 (λ q. omega arith)) ∙ «by» (cases_lt x (min 64 (length xs)))
     where
@@ -56,7 +56,7 @@ module _ {S : Type 0} (same : S → S → Bool) (s : Sets) (rows : List ℕ) (xs
       let b : bit (row x) (z - 1) ≡ true = eq-eqb _ 1 (subst (λ r. Bit r (z - 1)) (sym (row_next x)) p.0) in (
         i,
         subst (λ j. bit (row x) j ≡ true) (sym (zero-add (z - 1))) b,
-        sym (like_getD same (take 64 xs) (z - 1) a a (omega (arith, i.0, i.1))) ∙ ap (λ j. like same (symbol_at (take 64 xs) j) a) (sym q) ∙ p.1,
+        sym (like_get_or same (take 64 xs) (z - 1) a a (omega (arith, i.0, i.1))) ∙ ap (λ j. like same (symbol_at (take 64 xs) j) a) (sym q) ∙ p.1,
       )
 
   none_below : (x n z : ℕ) (a : S) → NoneBelow same (row x) a (take 64 xs) 0 n → z - 1 < n → May same s rows (take 64 xs) x a z → ⊥
@@ -72,7 +72,7 @@ module _ {S : Type 0} (same : S → S → Bool) (s : Sets) (rows : List ℕ) (xs
           let q : y ≡ l.place + 1 = omega (arith, l.counted) in
           let j : 0 + l.place ≡ y - 1 = omega (arith, l.counted) in
           let b : Bit (row x) (y - 1) = eqb-true _ 1 (subst (λ i. bit (row x) i ≡ true) j l.fits.set) in (
-            (subst (λ r. Bit r (y - 1)) (row_next x) b, ap (λ i. like same (symbol_at (take 64 xs) i) a) q ∙ like_getD same (take 64 xs) l.place a a l.fits.within ∙ l.fits.like a),
+            (subst (λ r. Bit r (y - 1)) (row_next x) b, ap (λ i. like same (symbol_at (take 64 xs) i) a) q ∙ like_get_or same (take 64 xs) l.place a a l.fits.within ∙ l.fits.like a),
             (λ z p. least z p (cases_lt z y)),
           )
         where
@@ -91,7 +91,7 @@ module _ {S : Type 0} (same : S → S → Bool) (s : Sets) (rows : List ℕ) (xs
   step_is k x a o e h =
       (one_answer same).step s rows (take 64 xs) x a o (T.goes x a) (subst (λ l. Steps same s rows l x a o) (take_first k e) h) (goes_steps x a)
 
-  pub ending_may : (x : ℕ) → x ≤ min 64 (length xs) → T.ending x ≡ mayEnd s x
+  pub ending_may : (x : ℕ) → x ≤ min 64 (length xs) → T.ending x ≡ can_end s x
   ending_may zero h = refl
   ending_may (suc x) h =
       let j : suc x - 1 ≡ x = omega arith in
@@ -134,7 +134,7 @@ module _ {S : Type 0} (same : S → S → Bool) {foreign : S → Bool} (laws : K
   leads_within [] x z h l = subst (λ i. i ≤ length m.symbols) l h
   leads_within (a ∷ w) x z h l = leads_within w l.0 z (goes_within same m t.formed x l.0 a l.1) l.2
 
-  pub ending_at : (x : ℕ) → x ≤ length m.symbols → table.ending x ≡ mayEnd s x
+  pub ending_at : (x : ℕ) → x ≤ length m.symbols → table.ending x ≡ can_end s x
   ending_at x h = ending_may same s rows xs x (omega (arith, even, t.formed.few))
 
   pub takes_word : (w : List S) → Takes table w → Word same m w

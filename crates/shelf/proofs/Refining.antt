@@ -17,8 +17,8 @@ use Rattle.shelf.specs.declared.records.Record.{Record}
 use Rattle.shelf.specs.declared.records.Record.TheVariants.{Empty, Taken}
 use Rattle.shelf.specs.declared.records.Summary.{Summary}
 use Rattle.shelf.specs.declared.shelves.Shelf.{Shelf}
-use Rattle.shelf.specs.Places.{State, room, front, placed, recordAt, is_taken, has, Kept, HoldsAt, Holds, Cells, cells, cellsAt, cells_of, tableFrom, table_of}
-use Rattle.shelf.specs.Calls.{Done, Judges, LoadEnds, TrialEnds, TakesJust, statesOf, withdrawEnds, afterLoad, afterWithdraw, Others, Unchanged, WithdrawWrites, Withdraws, Put, LoadWrites, Loads, TriesAt, Tries, Refines}
+use Rattle.shelf.specs.Places.{State, room, front, placed, record_at, is_taken, has, Kept, HoldsAt, Holds, Cells, cells, cells_at, cells_of, table_from, table_of}
+use Rattle.shelf.specs.Calls.{Done, Judges, LoadEnds, TrialEnds, TakesJust, states_of, withdraw_ends, after_load, after_withdraw, Others, Unchanged, WithdrawWrites, Withdraws, Put, LoadWrites, Loads, TriesAt, Tries, Refines}
 use Rattle.shelf.proofs.Cells.{length_placed, front_placed, front_other, made_placed}
 use Rattle.shelf.proofs.Reading.{even, takes_word, word_takes}
 
@@ -32,13 +32,13 @@ pub ok_err : {A : Type 0} (u : A) (f : Fault) → Ok u ≡ Err f → ⊥
 ok_err u f e = let z : ◌≡◌ {A = ℕ} 0 1 = cc in omega arith
 
 -- where the place stands, it exists and is taken
-pub stood : (here full : Bool) (p : ℕ) (u : Unit {0}) → Ok u ≡ withdrawEnds here full p → (here ≡ true) × (full ≡ true)
+pub stood : (here full : Bool) (p : ℕ) (u : Unit {0}) → Ok u ≡ withdraw_ends here full p → (here ≡ true) × (full ≡ true)
 stood false full p u e = absurd (ok_err u (fault.NoPlace p) e)
 stood true false p u e = absurd (ok_err u (fault.Vacant p) e)
 stood true true p u e = (refl, refl)
 
 -- the record that is read at p
-pub record_read : (shelf : Shelf) (p : ℕ) (x : Record) → x ≡ get_or shelf.records p x → p < 16 → 16 ≡ length shelf.records → recordAt shelf p ≡ get_or shelf.records p x
+pub record_read : (shelf : Shelf) (p : ℕ) (x : Record) → x ≡ get_or shelf.records p x → p < 16 → 16 ≡ length shelf.records → record_at shelf p ≡ get_or shelf.records p x
 record_read shelf p x e lt long = sym (get_or_read_under shelf.records p 16 x Empty e lt long) ∙ e
 
 module _ {S : Type 0} (same : S → S → Bool) where
@@ -66,7 +66,7 @@ module _ {S : Type 0} (same : S → S → Bool) where
   moved (Taken t) ss ss' ns ns' q (Some m) a b f g h =
       (ap (λ x. room x (length ns') q) a ∙ ap (λ x. room (length ss) x q) b ∙ h.0, kept_as (sym (f t.count t.fits)) (sym (g t.count t.fits)) h.1)
 
-  pub carried : (s t : State S) (q : ℕ) (k : Option (Model S)) → recordAt t.shelf q ≡ recordAt s.shelf q → length t.symbols ≡ length s.symbols → length t.numbers ≡ length s.numbers → ((n : ℕ) → n ≤ 64 → front t.symbols q n ≡ front s.symbols q n) → ((n : ℕ) → n ≤ 64 → front t.numbers q n ≡ front s.numbers q n) → Holds same s q k → Holds same t q k
+  pub carried : (s t : State S) (q : ℕ) (k : Option (Model S)) → record_at t.shelf q ≡ record_at s.shelf q → length t.symbols ≡ length s.symbols → length t.numbers ≡ length s.numbers → ((n : ℕ) → n ≤ 64 → front t.symbols q n ≡ front s.symbols q n) → ((n : ℕ) → n ≤ 64 → front t.numbers q n ≡ front s.numbers q n) → Holds same s q k → Holds same t q k
   carried s t q k e a b f g h = subst (λ found. HoldsAt same found t.symbols t.numbers q k) (sym e) (moved _ _ _ _ _ q k a b f g h)
 
   unchanged : (s t : State S) → Unchanged s t → (q : ℕ) (k : Option (Model S)) → Holds same s q k → Holds same t q k
@@ -85,7 +85,7 @@ module _ {S : Type 0} (same : S → S → Bool) where
   load_done true true p m u e = absurd (ok_err u (fault.Taken p) e)
   load_done true false p m u j = (refl, j.0.few)
 
-  load_here : (s t : State S) (p : ℕ) (m : Model S) (r : Done) → LoadEnds same (has s p) (is_taken (recordAt s.shelf p)) p m r → LoadWrites same s p m r t → (k : Option (Model S)) → Holds same s p k → Holds same t p (afterLoad r m k)
+  load_here : (s t : State S) (p : ℕ) (m : Model S) (r : Done) → LoadEnds same (has s p) (is_taken (record_at s.shelf p)) p m r → LoadWrites same s p m r t → (k : Option (Model S)) → Holds same s p k → Holds same t p (after_load r m k)
   load_here s t p m (Ok u) e w k h =
       let f = load_done _ _ p m u e in
       let c = room_cells _ _ p f.0 in
@@ -98,14 +98,14 @@ module _ {S : Type 0} (same : S → S → Bool) where
       (ap (λ x. room x (length t.numbers) p) a ∙ ap (λ x. room (length s.symbols) x p) b ∙ f.0, kept_as (sym x) (sym y) w.tells)
   load_here s t p m (Err x) e w k h = unchanged s t w p k h
 
-  load_lengths : (s t : State S) (p : ℕ) (m : Model S) (r : Done) → LoadEnds same (has s p) (is_taken (recordAt s.shelf p)) p m r → LoadWrites same s p m r t → (length t.symbols ≡ length s.symbols) × (length t.numbers ≡ length s.numbers)
+  load_lengths : (s t : State S) (p : ℕ) (m : Model S) (r : Done) → LoadEnds same (has s p) (is_taken (record_at s.shelf p)) p m r → LoadWrites same s p m r t → (length t.symbols ≡ length s.symbols) × (length t.numbers ≡ length s.numbers)
   load_lengths s t p m (Ok u) e w =
       let f = load_done _ _ p m u e in
       let c = room_cells _ _ p f.0 in
       (ap length w.symbols ∙ length_placed s.symbols m.symbols p c.0 f.1, ap length w.numbers ∙ length_placed s.numbers w.followers p c.1 (omega (arith, f.1, w.even)))
   load_lengths s t p m (Err x) e w = (ap length w.symbols, ap length w.numbers)
 
-  load_other : (s t : State S) (p : ℕ) (m : Model S) (r : Done) → LoadEnds same (has s p) (is_taken (recordAt s.shelf p)) p m r → LoadWrites same s p m r t → (q : ℕ) (k : Option (Model S)) → (q ≡ p → ⊥) → Holds same s q k → Holds same t q k
+  load_other : (s t : State S) (p : ℕ) (m : Model S) (r : Done) → LoadEnds same (has s p) (is_taken (record_at s.shelf p)) p m r → LoadWrites same s p m r t → (q : ℕ) (k : Option (Model S)) → (q ≡ p → ⊥) → Holds same s q k → Holds same t q k
   load_other s t p m (Ok u) e w q k ne =
       let f = load_done _ _ p m u e in
       let c = room_cells _ _ p f.0 in
@@ -115,15 +115,15 @@ module _ {S : Type 0} (same : S → S → Bool) where
       (λ n le. ap (λ l. front l q n) w.numbers ∙ front_other s.numbers w.followers p c.1 (omega (arith, f.1, w.even)) q n ne le)
   load_other s t p m (Err x) e w q k ne = unchanged s t w q k
 
-  pub load_refines : (s t : State S) (p : ℕ) (m : Model S) (r : Done) → Loads same s p m r t → Refines same s p (afterLoad r m) (λ k. LoadEnds same (has s p) (is_some k) p m r) t
+  pub load_refines : (s t : State S) (p : ℕ) (m : Model S) (r : Done) → Loads same s p m r t → Refines same s p (after_load r m) (λ k. LoadEnds same (has s p) (is_some k) p m r) t
   load_refines s t p m r d = record {
-    content = by_place s t p (afterLoad r m) (load_here s t p m r d.ends d.writes) (load_other s t p m r d.ends d.writes);
+    content = by_place s t p (after_load r m) (load_here s t p m r d.ends d.writes) (load_other s t p m r d.ends d.writes);
     reply = λ k h. subst (λ b. LoadEnds same (has s p) b p m r) (full_is _ _ _ p k h) d.ends;
     symbols = (load_lengths s t p m r d.ends d.writes).0;
     numbers = (load_lengths s t p m r d.ends d.writes).1;
   }
 
-  withdraw_here : (s t : State S) (p : ℕ) (r : Done) → WithdrawWrites s p r t → (k : Option (Model S)) → Holds same s p k → Holds same t p (afterWithdraw r k)
+  withdraw_here : (s t : State S) (p : ℕ) (r : Done) → WithdrawWrites s p r t → (k : Option (Model S)) → Holds same s p k → Holds same t p (after_withdraw r k)
   withdraw_here s t p (Ok u) w k h = subst (λ found. HoldsAt same found t.symbols t.numbers p None) (sym w.here) tt
   withdraw_here s t p (Err x) w k h = unchanged s t w p k h
 
@@ -135,10 +135,10 @@ module _ {S : Type 0} (same : S → S → Bool) where
   withdraw_lengths s t p (Ok u) w = (ap length w.symbols, ap length w.numbers)
   withdraw_lengths s t p (Err x) w = (ap length w.symbols, ap length w.numbers)
 
-  pub withdraw_refines : (s t : State S) (p : ℕ) (r : Done) → Withdraws s p r t → Refines same s p (afterWithdraw r) (λ k. r ≡ withdrawEnds (has s p) (is_some k) p) t
+  pub withdraw_refines : (s t : State S) (p : ℕ) (r : Done) → Withdraws s p r t → Refines same s p (after_withdraw r) (λ k. r ≡ withdraw_ends (has s p) (is_some k) p) t
   withdraw_refines s t p r d = record {
-    content = by_place s t p (afterWithdraw r) (withdraw_here s t p r d.writes) (withdraw_other s t p r d.writes);
-    reply = λ k h. d.ends ∙ ap (λ b. withdrawEnds (has s p) b p) (full_is _ _ _ p k h);
+    content = by_place s t p (after_withdraw r) (withdraw_here s t p r d.writes) (withdraw_other s t p r d.writes);
+    reply = λ k h. d.ends ∙ ap (λ b. withdraw_ends (has s p) b p) (full_is _ _ _ p k h);
     symbols = (withdraw_lengths s t p r d.writes).0;
     numbers = (withdraw_lengths s t p r d.writes).1;
   }
@@ -146,7 +146,7 @@ module _ {S : Type 0} (same : S → S → Bool) where
   -- a model that was studied in the place's stretch of the numbers, and put into the place
   pub studied_put : (s t : State S) (p k : ℕ) (m : Model S) (kept : Summary) (sets : Sets) (new : List ℕ) → has s p ≡ true → k ≡ 64
       → Studied same m sets (take k (drop (p * 64) s.numbers)) new → kept.count ≡ length m.symbols → kept.sets ≡ sets
-      → recordAt t.shelf p ≡ Taken kept → Others s p t → t.symbols ≡ placed s.symbols p m.symbols → t.numbers ≡ put_mid (p * 64) k s.numbers new → Put same s p m t
+      → record_at t.shelf p ≡ Taken kept → Others s p t → t.symbols ≡ placed s.symbols p m.symbols → t.numbers ≡ put_mid (p * 64) k s.numbers new → Put same s p m t
   studied_put s t p k m kept sets new here long d count own found others symbols numbers =
       let room = (room_cells _ _ p here).1 in
       let few = d.formed.few in
@@ -168,8 +168,8 @@ module _ {S : Type 0} (same : S → S → Bool) where
   load_ends here full p m r e f j = subst (λ b. LoadEnds same b full p m r) (sym e) (subst (λ b. LoadEnds same true b p m r) (sym f) j)
 
   -- a load that the model's flaw refuses
-  pub load_refused : (s t : State S) (p : ℕ) (m : Model S) (f : Fault) → has s p ≡ true → is_taken (recordAt s.shelf p) ≡ false → Flawed same m f → Unchanged s t → Loads same s p m (Err f) t
-  load_refused s t p m f here free flaw u = record { ends = load_ends (has s p) (is_taken (recordAt s.shelf p)) p m (Err f) here free flaw; writes = u }
+  pub load_refused : (s t : State S) (p : ℕ) (m : Model S) (f : Fault) → has s p ≡ true → is_taken (record_at s.shelf p) ≡ false → Flawed same m f → Unchanged s t → Loads same s p m (Err f) t
+  load_refused s t p m f here free flaw u = record { ends = load_ends (has s p) (is_taken (record_at s.shelf p)) p m (Err f) here free flaw; writes = u }
 
   -- a trial at a place that stands
   try_says : (here : Bool) (found : Record) (p : ℕ) (ss : List S) (ns : List ℕ) (word : List S) (r : Result Trial Fault) (k : Option (Model S))
@@ -184,14 +184,14 @@ module _ {S : Type 0} (same : S → S → Bool) where
   pub try_refines : (s : State S) (p : ℕ) (word : List S) (r : Result Trial Fault) → Tries same s p word r → Refines same s p (λ k. k) (λ k. TrialEnds same (has s p) p k word r) s
   try_refines s p word r d = record {
     content = by_place s s p (λ k. k) (λ k h. h) (λ q k ne h. h);
-    reply = λ k h. try_says (has s p) (recordAt s.shelf p) p s.symbols s.numbers word r k d h;
+    reply = λ k h. try_says (has s p) (record_at s.shelf p) p s.symbols s.numbers word r k d h;
     symbols = refl;
     numbers = refl;
   }
 
   -- the cells of a place that holds k have a symbol for each position
   states_at : (here : Bool) (found : Record) (ss : List S) (ns : List ℕ) (p : ℕ) (k : Option (Model S)) → room (length ss) (length ns) p ≡ here → HoldsAt same found ss ns p k
-      → (tableFrom same (cellsAt here found ss ns p)).states ≡ statesOf k
+      → (table_from same (cells_at here found ss ns p)).states ≡ states_of k
   states_at false Empty ss ns p None e h = refl
   states_at false Empty ss ns p (Some m) e h = absurd h
   states_at false (Taken t) ss ns p None e h = absurd h
@@ -202,22 +202,22 @@ module _ {S : Type 0} (same : S → S → Bool) where
   states_at true (Taken t) ss ns p (Some m) e h =
       let l : length (front ss p t.count) ≡ length m.symbols = ap length h.1.tables.symbols in omega (arith, h.1.tables.formed.few)
 
-  pub reader_states : (s : State S) (p : ℕ) (c : Cells S) → c ≡ cells_of s p → (k : Option (Model S)) → Holds same s p k → (tableFrom same c).states ≡ statesOf k
-  reader_states s p c e k h = ap (λ d. (tableFrom same d).states) e ∙ states_at (has s p) (recordAt s.shelf p) s.symbols s.numbers p k refl h
+  pub reader_states : (s : State S) (p : ℕ) (c : Cells S) → c ≡ cells_of s p → (k : Option (Model S)) → Holds same s p k → (table_from same c).states ≡ states_of k
+  reader_states s p c e k h = ap (λ d. (table_from same d).states) e ∙ states_at (has s p) (record_at s.shelf p) s.symbols s.numbers p k refl h
 
   -- a table without symbols takes nothing
-  none_takes : (word : List S) → Takes (tableFrom same (cells [] [] no_sets)) word → ⊥
+  none_takes : (word : List S) → Takes (table_from same (cells [] [] no_sets)) word → ⊥
   none_takes [] (z, stays, e) = false≢true e
   none_takes (a ∷ word) (z, steps g r, e) = let n : ◌≡◌ {A = ℕ} 0 1 = cc in omega arith
 
   pub missing_reads : (s : State S) (p : ℕ) → has s p ≡ false → ((table_of same s p).states ≡ 1) × TakesJust same None (table_of same s p)
   missing_reads s p e =
-      let c : cells [] [] no_sets ≡ cells_of s p = sym (ap (λ b. cellsAt b (recordAt s.shelf p) s.symbols s.numbers p) e) in
-      subst (λ d. ((tableFrom same d).states ≡ 1) × TakesJust same None (tableFrom same d)) c (refl, (λ word. (none_takes word, λ x. absurd x)))
+      let c : cells [] [] no_sets ≡ cells_of s p = sym (ap (λ b. cells_at b (record_at s.shelf p) s.symbols s.numbers p) e) in
+      subst (λ d. ((table_from same d).states ≡ 1) × TakesJust same None (table_from same d)) c (refl, (λ word. (none_takes word, λ x. absurd x)))
 
   module _ {foreign : S → Bool} (laws : KindLaws same foreign) where
     table_takes : (here : Bool) (found : Record) (ss : List S) (ns : List ℕ) (p : ℕ) (k : Option (Model S)) → room (length ss) (length ns) p ≡ here → HoldsAt same found ss ns p k
-        → TakesJust same k (tableFrom same (cellsAt here found ss ns p))
+        → TakesJust same k (table_from same (cells_at here found ss ns p))
     table_takes false Empty ss ns p None e h word = (none_takes word, λ x. absurd x)
     table_takes false Empty ss ns p (Some m) e h word = absurd h
     table_takes false (Taken t) ss ns p None e h word = absurd h
@@ -229,11 +229,11 @@ module _ {S : Type 0} (same : S → S → Bool) where
         let d = h.1.tables in
         (takes_word same laws t.sets (front ns p t.count) (front ss p t.count) m d word, word_takes same laws t.sets (front ns p t.count) (front ss p t.count) m d word)
 
-    pub reader_takes : (s : State S) (p : ℕ) (c : Cells S) → c ≡ cells_of s p → (k : Option (Model S)) → Holds same s p k → TakesJust same k (tableFrom same c)
-    reader_takes s p c e k h = subst (λ d. TakesJust same k (tableFrom same d)) (sym e) (table_takes (has s p) (recordAt s.shelf p) s.symbols s.numbers p k refl h)
+    pub reader_takes : (s : State S) (p : ℕ) (c : Cells S) → c ≡ cells_of s p → (k : Option (Model S)) → Holds same s p k → TakesJust same k (table_from same c)
+    reader_takes s p c e k h = subst (λ d. TakesJust same k (table_from same d)) (sym e) (table_takes (has s p) (record_at s.shelf p) s.symbols s.numbers p k refl h)
 
 pub reader_taken : {S : Type 0} (here : Bool) (found : Record) (t : Summary) (k : ℕ) (ss : List S) (ns : List ℕ) (p : ℕ) → here ≡ true → found ≡ Taken t → k ≡ t.count
-    → cells (take k (drop (p * 64) ss)) (take k (drop (p * 64) ns)) t.sets ≡ cellsAt here found ss ns p
+    → cells (take k (drop (p * 64) ss)) (take k (drop (p * 64) ns)) t.sets ≡ cells_at here found ss ns p
 reader_taken here found t k ss ns p e f g =
     ap (λ j. cells (take j (drop (p * 64) ss)) (take j (drop (p * 64) ns)) t.sets) g
-    ∙ sym (ap (λ b. cellsAt b found ss ns p) e ∙ ap (λ x. cellsAt true x ss ns p) f)
+    ∙ sym (ap (λ b. cells_at b found ss ns p) e ∙ ap (λ x. cells_at true x ss ns p) f)

@@ -12,7 +12,7 @@ use Rattle.tables.specs.Words.{Takes}
 use Rattle.shelf.specs.declared.records.Record.{Record}
 use Rattle.shelf.specs.declared.records.Record.TheVariants.{Empty, Taken}
 use Rattle.shelf.specs.declared.records.Summary.{Summary}
-use Rattle.shelf.specs.Places.{State, front, placed, recordAt, is_taken, has, Kept, Holds}
+use Rattle.shelf.specs.Places.{State, front, placed, record_at, is_taken, has, Kept, Holds}
 
 abbrev pub Done : Type 0
 Done = Result (Unit {0}) Fault
@@ -44,27 +44,27 @@ module _ {S : Type 0} (same : S → S → Bool) where
   abbrev pub TakesJust : Option (Model S) → Table S → Type 0
   TakesJust k t = (word : List S) → Takes t word ↔ WordOf k word
 
-abbrev pub withdrawEnds : Bool → Bool → ℕ → Done
-withdrawEnds here full p = cond here (cond full (Ok tt) (Err (fault.Vacant p))) (Err (fault.NoPlace p))
+abbrev pub withdraw_ends : Bool → Bool → ℕ → Done
+withdraw_ends here full p = cond here (cond full (Ok tt) (Err (fault.Vacant p))) (Err (fault.NoPlace p))
 
 module _ {S : Type 0} where
   -- how many states the reader of what a place holds has
-  abbrev pub statesOf : Option (Model S) → ℕ
-  statesOf None = 1
-  statesOf (Some m) = length m.symbols + 1
+  abbrev pub states_of : Option (Model S) → ℕ
+  states_of None = 1
+  states_of (Some m) = length m.symbols + 1
 
   -- the plain content of the named place afterwards
-  abbrev pub afterLoad : Done → Model S → Option (Model S) → Option (Model S)
-  afterLoad (Ok u) m k = Some m
-  afterLoad (Err f) m k = k
+  abbrev pub after_load : Done → Model S → Option (Model S) → Option (Model S)
+  after_load (Ok u) m k = Some m
+  after_load (Err f) m k = k
 
-  abbrev pub afterWithdraw : Done → Option (Model S) → Option (Model S)
-  afterWithdraw (Ok u) k = None
-  afterWithdraw (Err f) k = k
+  abbrev pub after_withdraw : Done → Option (Model S) → Option (Model S)
+  after_withdraw (Ok u) k = None
+  after_withdraw (Err f) k = k
 
   -- every record but that of place p is as it was
   abbrev pub Others : State S → ℕ → State S → Type 0
-  Others s p t = (q : ℕ) → (q ≢ p) → recordAt t.shelf q ≡ recordAt s.shelf q
+  Others s p t = (q : ℕ) → (q ≢ p) → record_at t.shelf q ≡ record_at s.shelf q
 
   pub record Unchanged (s t : State S) : Type 0 where
     pub shelf : t.shelf.records ≡ s.shelf.records
@@ -73,7 +73,7 @@ module _ {S : Type 0} where
 
   -- place p is empty, and nothing else has changed
   pub record Freed (s : State S) (p : ℕ) (t : State S) : Type 0 where
-    pub here : recordAt t.shelf p ≡ Empty
+    pub here : record_at t.shelf p ≡ Empty
     pub others : Others s p t
     pub symbols : t.symbols ≡ s.symbols
     pub numbers : t.numbers ≡ s.numbers
@@ -84,7 +84,7 @@ module _ {S : Type 0} where
 
   -- a withdrawal at place p, from s to t, that returns r
   pub record Withdraws (s : State S) (p : ℕ) (r : Done) (t : State S) : Type 0 where
-    pub ends : r ≡ withdrawEnds (has s p) (is_taken (recordAt s.shelf p)) p
+    pub ends : r ≡ withdraw_ends (has s p) (is_taken (record_at s.shelf p)) p
     pub writes : WithdrawWrites s p r t
 
 module _ {S : Type 0} (same : S → S → Bool) where
@@ -95,7 +95,7 @@ module _ {S : Type 0} (same : S → S → Bool) where
     pub followers : List ℕ
     pub even : length followers ≡ length m.symbols
     pub tells : Kept same kept m.symbols followers m
-    pub here : recordAt t.shelf p ≡ Taken kept
+    pub here : record_at t.shelf p ≡ Taken kept
     pub others : Others s p t
     pub symbols : t.symbols ≡ placed s.symbols p m.symbols
     pub numbers : t.numbers ≡ placed s.numbers p followers
@@ -106,7 +106,7 @@ module _ {S : Type 0} (same : S → S → Bool) where
 
   -- a load at place p, from s to t, that returns r
   pub record Loads (s : State S) (p : ℕ) (m : Model S) (r : Done) (t : State S) : Type 0 where
-    pub ends : LoadEnds same (has s p) (is_taken (recordAt s.shelf p)) p m r
+    pub ends : LoadEnds same (has s p) (is_taken (record_at s.shelf p)) p m r
     pub writes : LoadWrites s p m r t
 
   -- a trial where this record stands: at a taken place it is done, and true of each model whose tables stand there
@@ -119,7 +119,7 @@ module _ {S : Type 0} (same : S → S → Bool) where
 
   -- a trial of a word at place p that returns r
   abbrev pub Tries : State S → ℕ → List S → Result Trial Fault → Type 0
-  Tries s p word r = TriesAt (has s p) (recordAt s.shelf p) p s.symbols s.numbers word r
+  Tries s p word r = TriesAt (has s p) (record_at s.shelf p) p s.symbols s.numbers word r
 
   -- a call at place p is the plain shelf's: for each content that a place holds, it holds afterwards what the plain shelf has there,
   -- and where place p holds k, the answer is the plain one; the lists keep their lengths

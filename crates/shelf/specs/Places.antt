@@ -33,8 +33,8 @@ abbrev pub state : {S : Type 0} → Shelf → List S → List ℕ → State S
 state shelf ss ns = record { shelf = shelf; symbols = ss; numbers = ns }
 
 -- the record of place p: empty past the sixteen
-abbrev pub recordAt : Shelf → ℕ → Record
-recordAt shelf p = slice_index_or shelf.records p Empty
+abbrev pub record_at : Shelf → ℕ → Record
+record_at shelf p = slice_index_or shelf.records p Empty
 
 abbrev pub is_taken : Record → Bool
 is_taken Empty = false
@@ -55,13 +55,13 @@ module _ {S : Type 0} where
   cells xs rows sets = record { symbols = xs; followers = rows; sets = sets }
 
   -- no position where the place is missing or empty
-  abbrev pub cellsAt : Bool → Record → List S → List ℕ → ℕ → Cells S
-  cellsAt false found ss ns p = cells [] [] no_sets
-  cellsAt true Empty ss ns p = cells [] [] no_sets
-  cellsAt true (Taken t) ss ns p = cells (front ss p t.count) (front ns p t.count) t.sets
+  abbrev pub cells_at : Bool → Record → List S → List ℕ → ℕ → Cells S
+  cells_at false found ss ns p = cells [] [] no_sets
+  cells_at true Empty ss ns p = cells [] [] no_sets
+  cells_at true (Taken t) ss ns p = cells (front ss p t.count) (front ns p t.count) t.sets
 
   abbrev pub cells_of : State S → ℕ → Cells S
-  cells_of s p = cellsAt (has s p) (recordAt s.shelf p) s.symbols s.numbers p
+  cells_of s p = cells_at (has s p) (record_at s.shelf p) s.symbols s.numbers p
 
 module _ {S : Type 0} (same : S → S → Bool) where
   -- the record t, the symbols ss and the followers ns are those of the model m
@@ -78,12 +78,12 @@ module _ {S : Type 0} (same : S → S → Bool) where
 
   -- place p holds k: nothing, or a model whose symbols and followers stand in the place's cells and whose record is the model's
   abbrev pub Holds : State S → ℕ → Option (Model S) → Type 0
-  Holds s p k = HoldsAt (recordAt s.shelf p) s.symbols s.numbers p k
+  Holds s p k = HoldsAt (record_at s.shelf p) s.symbols s.numbers p k
 
   -- the table of a reader of these cells: state 0 is the start, state x is position x
-  abbrev pub tableFrom : Cells S → Table S
-  tableFrom c = place_table same c.symbols c.followers c.sets.first c.sets.last c.sets.nullable
+  abbrev pub table_from : Cells S → Table S
+  table_from c = place_table same c.symbols c.followers c.sets.first c.sets.last c.sets.nullable
 
   -- the table of the reader of place p
   abbrev pub table_of : State S → ℕ → Table S
-  table_of s p = tableFrom (cells_of s p)
+  table_of s p = table_from (cells_of s p)

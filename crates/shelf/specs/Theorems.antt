@@ -8,8 +8,8 @@ use Rattle.models.specs.Told.{TrialTold}
 use Rattle.tables.specs.Tables.{Table, Sound, Alike}
 use Rattle.shelf.specs.declared.records.Record.{Record}
 use Rattle.shelf.specs.declared.records.Record.TheVariants.{Empty, Taken}
-use Rattle.shelf.specs.Places.{State, recordAt, has, Holds, table_of}
-use Rattle.shelf.specs.Calls.{Done, TakesJust, statesOf, Loads, Withdraws, Tries}
+use Rattle.shelf.specs.Places.{State, record_at, has, Holds, table_of}
+use Rattle.shelf.specs.Calls.{Done, TakesJust, states_of, Loads, Withdraws, Tries}
 
 module _ {S : Type 0} (same : S → S → Bool) where
   -- a shelf whose sixteen records are empty holds nothing at any place, whatever the lists
@@ -22,7 +22,7 @@ module _ {S : Type 0} (same : S → S → Bool) where
     pub sound : Sound (table_of same s p)
     pub alike : Alike same (table_of same s p)
     pub takes : (k : Option (Model S)) → Holds same s p k → TakesJust same k (table_of same s p)
-    pub states : (k : Option (Model S)) → Holds same s p k → (table_of same s p).states ≡ statesOf k
+    pub states : (k : Option (Model S)) → Holds same s p k → (table_of same s p).states ≡ states_of k
     pub missing : has s p ≡ false → ((table_of same s p).states ≡ 1) × TakesJust same None (table_of same s p)
 
   abbrev pub PlaceReaders : Type 0
@@ -55,7 +55,7 @@ module _ {S : Type 0} (same : S → S → Bool) where
   SameRecord (Taken t) (Taken u) = (t.count ≡ u.count) × (t.sets ≡ u.sets)
 
   pub record SameState (t u : State S) : Type 0 where
-    pub shelf : (q : ℕ) → SameRecord (recordAt t.shelf q) (recordAt u.shelf q)
+    pub shelf : (q : ℕ) → SameRecord (record_at t.shelf q) (record_at u.shelf q)
     pub symbols : t.symbols ≡ u.symbols
     pub numbers : t.numbers ≡ u.numbers
 

@@ -1,7 +1,7 @@
 // The reader of a place.
 ghost use Rattle.std.specs.Prelude.{◌≡◌};
 ghost use Rattle.tables.proofs.PlaceLaws.{place_sound};
-ghost use Rattle.shelf.specs.Places.{cells, tableFrom};
+ghost use Rattle.shelf.specs.Places.{cells, table_from};
 
 use models::may_end;
 use models::tables::Sets;
@@ -25,7 +25,7 @@ fn next_state<S: Symbol>(
     state: u16,
     symbol: &S,
 ) -> Option<u16>
-    ensures { result ≡ (tableFrom S.Symbol.same (cells symbols.now followers.now sets)).goes state symbol.now }
+    ensures { result ≡ (table_from S.Symbol.same (cells symbols.now followers.now sets)).goes state symbol.now }
 {
     let positions = symbols.len().min(64);
     match models::step(
@@ -41,7 +41,7 @@ fn next_state<S: Symbol>(
 }
 
 impl<'a, 'b, S: Symbol> Reader<S> for PlaceReader<'a, 'b, S> {
-    ghost table = { λ r. tableFrom S.Symbol.same (cells r.symbols.now r.followers.now r.sets) };
+    ghost table = { λ r. table_from S.Symbol.same (cells r.symbols.now r.followers.now r.sets) };
 
     ghost sound = { λ r. place_sound S.Symbol.same r.symbols.now r.followers.now r.sets.first r.sets.last r.sets.nullable };
 

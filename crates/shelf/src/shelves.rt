@@ -1,8 +1,8 @@
 // The shelf and its calls.
 ghost use Rattle.std.specs.Prelude.{◌≡◌, ◌≤◌, ◌++◌, length, drop, replicate, is_some, Option};
 ghost use Rattle.language.specs.Meaning.{Model, given};
-ghost use Rattle.shelf.specs.Places.{Holds, cells, cells_of, is_taken, recordAt, room, state, tableFrom};
-ghost use Rattle.shelf.specs.Calls.{LoadEnds, Loads, Refines, TakesJust, TrialEnds, Tries, Withdraws, afterLoad, afterWithdraw, statesOf, withdrawEnds};
+ghost use Rattle.shelf.specs.Places.{Holds, cells, cells_of, is_taken, record_at, room, state, table_from};
+ghost use Rattle.shelf.specs.Calls.{LoadEnds, Loads, Refines, TakesJust, TrialEnds, Tries, Withdraws, after_load, after_withdraw, states_of, withdraw_ends};
 ghost use Rattle.shelf.specs.declared.records.Record.TheVariants.{Empty};
 
 use crate::place_readers::PlaceReader;
@@ -68,7 +68,7 @@ impl Shelf {
         codes: &[u8],
         model: &[S],
     ) -> Result<(), Fault>
-        ensures refines { Refines S.Symbol.same (state self.old symbols.old numbers.old) place (afterLoad result (given codes.now model.now)) (λ k. LoadEnds S.Symbol.same (room (length symbols.old) (length numbers.old) place) (is_some k) place (given codes.now model.now) result) (state self.new symbols.new numbers.new) }
+        ensures refines { Refines S.Symbol.same (state self.old symbols.old numbers.old) place (after_load result (given codes.now model.now)) (λ k. LoadEnds S.Symbol.same (room (length symbols.old) (length numbers.old) place) (is_some k) place (given codes.now model.now) result) (state self.new symbols.new numbers.new) }
         ensures exact { Loads S.Symbol.same (state self.old symbols.old numbers.old) place (given codes.now model.now) result (state self.new symbols.new numbers.new) }
     {
         if !exists(place, symbols.len(), numbers.len()) {
@@ -92,7 +92,7 @@ impl Shelf {
         numbers: &[u64],
         place: usize,
     ) -> Result<(), Fault>
-        ensures refines { Refines S.Symbol.same (state self.old symbols.now numbers.now) place (afterWithdraw result) (λ k. result ≡ withdrawEnds (room (length symbols.now) (length numbers.now) place) (is_some k) place) (state self.new symbols.now numbers.now) }
+        ensures refines { Refines S.Symbol.same (state self.old symbols.now numbers.now) place (after_withdraw result) (λ k. result ≡ withdraw_ends (room (length symbols.now) (length numbers.now) place) (is_some k) place) (state self.new symbols.now numbers.now) }
         ensures exact { Withdraws (state self.old symbols.now numbers.now) place result (state self.new symbols.now numbers.now) }
     {
         self.stand(symbols, numbers, place)?;
@@ -107,8 +107,8 @@ impl Shelf {
         numbers: &[u64],
         place: usize,
     ) -> Result<(), Fault>
-        ensures exact { result ≡ withdrawEnds (room (length symbols.now) (length numbers.now) place) (is_taken (recordAt self.now place)) place }
-        ensures refines { (k : Option (Model S)) → Holds S.Symbol.same (state self.now symbols.now numbers.now) place k → result ≡ withdrawEnds (room (length symbols.now) (length numbers.now) place) (is_some k) place }
+        ensures exact { result ≡ withdraw_ends (room (length symbols.now) (length numbers.now) place) (is_taken (record_at self.now place)) place }
+        ensures refines { (k : Option (Model S)) → Holds S.Symbol.same (state self.now symbols.now numbers.now) place k → result ≡ withdraw_ends (room (length symbols.now) (length numbers.now) place) (is_some k) place }
     {
         if !exists(place, symbols.len(), numbers.len()) {
             return Err(Fault::NoPlace { place });
@@ -128,8 +128,8 @@ impl Shelf {
         place: usize,
     ) -> PlaceReader<'a, 'b, S>
         ensures exact { cells result.symbols.now result.followers.now result.sets ≡ cells_of (state self.now symbols.now numbers.now) place }
-        ensures takes { (k : Option (Model S)) → Holds S.Symbol.same (state self.now symbols.now numbers.now) place k → TakesJust S.Symbol.same k (tableFrom S.Symbol.same (cells result.symbols.now result.followers.now result.sets)) }
-        ensures states { (k : Option (Model S)) → Holds S.Symbol.same (state self.now symbols.now numbers.now) place k → (tableFrom S.Symbol.same (cells result.symbols.now result.followers.now result.sets)).states ≡ statesOf k }
+        ensures takes { (k : Option (Model S)) → Holds S.Symbol.same (state self.now symbols.now numbers.now) place k → TakesJust S.Symbol.same k (table_from S.Symbol.same (cells result.symbols.now result.followers.now result.sets)) }
+        ensures states { (k : Option (Model S)) → Holds S.Symbol.same (state self.now symbols.now numbers.now) place k → (table_from S.Symbol.same (cells result.symbols.now result.followers.now result.sets)).states ≡ states_of k }
     {
         let nothing = PlaceReader {
             symbols: &symbols[0..0],

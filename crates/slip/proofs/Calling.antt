@@ -12,9 +12,9 @@ use Rattle.shelf.specs.Places.{room, has, Holds}
 use Rattle.shelf.specs.Calls.{Done, Judges, LoadEnds}
 use Rattle.comparison.specs.declared.calls.Answer.{Answer}
 use Rattle.comparison.specs.declared.calls.Answer.TheVariants as answer
-use Rattle.comparison.specs.Runs.{Request, loads, Memory, Plain, doneAnswer, place_of, step, whenDone, Did, load, Run, none, more, Says, Lives, rests, calls, Matches, Replayed, Replays}
+use Rattle.comparison.specs.Runs.{Request, loads, Memory, Plain, answer_of_done, place_of, step, when_done, Did, load, Run, none, more, Says, Lives, rests, calls, Matches, Replayed, Replays}
 use Rattle.slip.specs.declared.desks.Desk.{Desk}
-use Rattle.slip.specs.Desks.{Models, memoryOf, Roomy, Has, Said, Called, OfLoad, Next, Puts}
+use Rattle.slip.specs.Desks.{Models, memory_of, Roomy, Has, Said, Called, OfLoad, Next, Puts}
 
 -- a run of one call
 run_one : (s u : Memory NameRow) (ask : Request NameRow) (rs : List Answer) → Run name_same s (ask ∷ []) rs u → (a : Answer) × (rs ≡ a ∷ []) × Did name_same s ask a u
@@ -40,24 +40,24 @@ module _ (d e : Desk) (ask : Request NameRow) (old new : List Answer) where
   abbrev a : Answer
   a = get_or new 0 answer.Done
 
-  one_said : Replayed name_same (memoryOf d) (ask ∷ []) old new (memoryOf e) → (plain : Plain NameRow) → Matches name_same (memoryOf d) plain → Said d ask a e plain
+  one_said : Replayed name_same (memory_of d) (ask ∷ []) old new (memory_of e) → (plain : Plain NameRow) → Matches name_same (memory_of d) plain → Said d ask a e plain
   one_said r plain m =
       let g = r.agrees plain m in
-      let l = lives_one (has (memoryOf d).base) (length d.work) plain g.after d.word e.word ask (take 1 new) g.lives in
+      let l = lives_one (has (memory_of d).base) (length d.work) plain g.after d.word e.word ask (take 1 new) g.lives in
       let f = first_answer new l.0 l.1 in (
-        subst (λ b. Says name_same (has (memoryOf d).base) (length d.work) ask (plain (place_of ask)) d.word b e.word) f l.2,
-        subst (λ b. Matches name_same (memoryOf e) (step ask b plain)) f (subst (Matches name_same (memoryOf e)) l.3 g.holds),
+        subst (λ b. Says name_same (has (memory_of d).base) (length d.work) ask (plain (place_of ask)) d.word b e.word) f l.2,
+        subst (λ b. Matches name_same (memory_of e) (step ask b plain)) f (subst (Matches name_same (memory_of e)) l.3 g.holds),
       )
 
-  one_did : Replayed name_same (memoryOf d) (ask ∷ []) old new (memoryOf e) → Did name_same (memoryOf d) ask a (memoryOf e)
+  one_did : Replayed name_same (memory_of d) (ask ∷ []) old new (memory_of e) → Did name_same (memory_of d) ask a (memory_of e)
   one_did r =
-      let l = run_one (memoryOf d) (memoryOf e) ask (take 1 new) r.ran in
-      subst (λ b. Did name_same (memoryOf d) ask b (memoryOf e)) (first_answer new l.0 l.1) l.2
+      let l = run_one (memory_of d) (memory_of e) ask (take 1 new) r.ran in
+      subst (λ b. Did name_same (memory_of d) ask b (memory_of e)) (first_answer new l.0 l.1) l.2
 
-  pub called : (Roomy d → Roomy e) → (done : Bool) (asks : List (Request NameRow)) → done ≡ true → asks ≡ ask ∷ [] → Replays name_same done (memoryOf d) asks old new (memoryOf e) → Called d ask a e
+  pub called : (Roomy d → Roomy e) → (done : Bool) (asks : List (Request NameRow)) → done ≡ true → asks ≡ ask ∷ [] → Replays name_same done (memory_of d) asks old new (memory_of e) → Called d ask a e
   called k done asks p q r =
-      let h : Replayed name_same (memoryOf d) (ask ∷ []) old new (memoryOf e) =
-      subst (λ l. Replayed name_same (memoryOf d) l old new (memoryOf e)) q (subst (λ b. Replays name_same b (memoryOf d) asks old new (memoryOf e)) p r) in
+      let h : Replayed name_same (memory_of d) (ask ∷ []) old new (memory_of e) =
+      subst (λ l. Replayed name_same (memory_of d) l old new (memory_of e)) q (subst (λ b. Replays name_same b (memory_of d) asks old new (memory_of e)) p r) in
       record { did = one_did h; agrees = one_said h; roomy = k }
 
 did_load : (s u : Memory NameRow) (p : ℕ) (m : Model NameRow) (a : Answer) → Did name_same s (loads p m) a u → OfLoad a
@@ -82,11 +82,11 @@ nth_push ms m q = elim (cases_order q (length ms)) [
 ]
 
 -- each of the sixteen places is there
-pub there : (d : Desk) (p : ℕ) → Roomy d → p < 16 → has (memoryOf d).base p ≡ true
+pub there : (d : Desk) (p : ℕ) → Roomy d → p < 16 → has (memory_of d).base p ≡ true
 there d p r h =
     and_from _ _ (lt-ltb p 16 h) (and_from _ _ (le-leb (p * 64 + 64) (length d.symbols) (omega (arith, r.symbols))) (le-leb (p * 64 + 64) (length d.numbers) (omega (arith, r.numbers))))
 
-same_done : (q r : Done) → doneAnswer q ≡ doneAnswer r → q ≡ r
+same_done : (q r : Done) → answer_of_done q ≡ answer_of_done r → q ≡ r
 same_done (Ok u) (Ok v) e = refl
 same_done (Ok u) (Err f) e = let z : ◌≡◌ {A = ℕ} 0 1 = cc in absurd (omega arith)
 same_done (Err f) (Ok v) e = let z : ◌≡◌ {A = ℕ} 0 1 = cc in absurd (omega arith)
@@ -96,23 +96,23 @@ module _ (d e : Desk) (ms : Models) (place : ℕ) (m : Model NameRow) (ask : Req
   c : Called d (loads place m) a e
   c = subst (λ k. Called d k a e) asked made
 
-  judged : (r : Done) → a ≡ doneAnswer r → Judges name_same m r
+  judged : (r : Done) → a ≡ answer_of_done r → Judges name_same m r
   judged r f =
       let s = (c.agrees (slice_get ms) h.holds).0.1 in
       let z : s.0 ≡ r = same_done s.0 r (sym s.1 ∙ f) in
       let i : is_some (slice_get ms place) ≡ false = ap is_some (slice_get_past ms place (omega (arith, n.0))) in
-      subst (Judges name_same m) z (subst (λ b. LoadEnds name_same b false place m s.0) (there d place h.roomy n.1) (subst (λ b. LoadEnds name_same (has (memoryOf d).base place) b place m s.0) i s.2))
+      subst (Judges name_same m) z (subst (λ b. LoadEnds name_same b false place m s.0) (there d place h.roomy n.1) (subst (λ b. LoadEnds name_same (has (memory_of d).base place) b place m s.0) i s.2))
 
   stands : a ≡ answer.Done → Has e (ms ++ m ∷ [])
   stands f = record {
     roomy = c.roomy h.roomy;
     holds = λ q.
-        let k : Holds name_same (memoryOf e).base q (step (loads place m) a (slice_get ms) q) = (c.agrees (slice_get ms) h.holds).1 q in
+        let k : Holds name_same (memory_of e).base q (step (loads place m) a (slice_get ms) q) = (c.agrees (slice_get ms) h.holds).1 q in
         let z : step (loads place m) a (slice_get ms) q ≡ slice_get (ms ++ m ∷ []) q =
-        ap (λ b. cond (eqb q place) (whenDone b (Some m) (slice_get ms q)) (slice_get ms q)) f ∙ ap (λ p. cond (eqb q p) (Some m) (slice_get ms q)) (sym n.0) ∙ nth_push ms m q in
-        subst (Holds name_same (memoryOf e).base q) z k;
+        ap (λ b. cond (eqb q place) (when_done b (Some m) (slice_get ms q)) (slice_get ms q)) f ∙ ap (λ p. cond (eqb q p) (Some m) (slice_get ms q)) (sym n.0) ∙ nth_push ms m q in
+        subst (Holds name_same (memory_of e).base q) z k;
   }
 
-  pub puts : (r : Done) → a ≡ doneAnswer r → Puts ms m r e
+  pub puts : (r : Done) → a ≡ answer_of_done r → Puts ms m r e
   puts (Ok u) f = (judged (Ok u) f, stands f)
   puts (Err g) f = judged (Err g) f

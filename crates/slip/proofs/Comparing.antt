@@ -12,16 +12,16 @@ use Rattle.product.specs.Compares.{pairs, CompareSays, little_work, little_word,
 use Rattle.shelf.specs.declared.records.Record.{Record}
 use Rattle.shelf.specs.declared.records.Record.TheVariants.{Empty, Taken}
 use Rattle.shelf.specs.Places.{room, has, Holds, HoldsAt}
-use Rattle.shelf.specs.Calls.{TakesJust, statesOf}
+use Rattle.shelf.specs.Calls.{TakesJust, states_of}
 use Rattle.comparison.specs.declared.calls.Answer.{Answer}
 use Rattle.comparison.specs.declared.calls.Answer.TheVariants as answer
 use Rattle.comparison.specs.Compares.{CompareEnds}
-use Rattle.comparison.specs.Runs.{compares, compareAnswer, step}
+use Rattle.comparison.specs.Runs.{compares, answer_of_compare, step}
 use Rattle.book.specs.declared.lines.Verdict.{Verdict}
 use Rattle.book.specs.declared.lines.Verdict.TheVariants as verdict
 use Rattle.verdicts.proofs.Compared.{taken_included, astray_missed}
 use Rattle.slip.specs.declared.desks.Desk.{Desk}
-use Rattle.slip.specs.Desks.{Models, memoryOf, Has, Called, OfVerdict, answer_of, Found}
+use Rattle.slip.specs.Desks.{Models, memory_of, Has, Called, OfVerdict, answer_of, Found}
 
 -- a place that holds a model is there, and the model is well-formed
 holds_there : (found : Record) (ss : List NameRow) (ns : List ℕ) (p : ℕ) (m : Model NameRow) → HoldsAt name_same found ss ns p (Some m) → (room (length ss) (length ns) p ≡ true) × Formed m
@@ -30,10 +30,10 @@ holds_there (Taken k) ss ns p m h = (h.0, h.1.tables.formed)
 
 module _ (d : Desk) (ms : Models) (h : Has d ms) where
   -- a place holds the model of its number
-  pub stands_at : (p : ℕ) (m : Model NameRow) → slice_get ms p ≡ Some m → Holds name_same (memoryOf d).base p (Some m)
-  stands_at p m e = subst (Holds name_same (memoryOf d).base p) e (h.holds p)
+  pub stands_at : (p : ℕ) (m : Model NameRow) → slice_get ms p ≡ Some m → Holds name_same (memory_of d).base p (Some m)
+  stands_at p m e = subst (Holds name_same (memory_of d).base p) e (h.holds p)
 
-  pub formed_at : (p : ℕ) (m : Model NameRow) → slice_get ms p ≡ Some m → (has (memoryOf d).base p ≡ true) × Formed m
+  pub formed_at : (p : ℕ) (m : Model NameRow) → slice_get ms p ≡ Some m → (has (memory_of d).base p ≡ true) × Formed m
   formed_at p m e = holds_there _ _ _ p m (stands_at p m e)
 
 cond_same : {X : Type 0} (b : Bool) (x : X) → cond b x x ≡ x
@@ -41,8 +41,8 @@ cond_same true x = refl
 cond_same false x = refl
 
 module _ (d : Desk) (ms : Models) (h : Has d ms) (first second : ℕ) (m n : Model NameRow) (p : slice_get ms first ≡ Some m) (q : slice_get ms second ≡ Some n) (t : Table NameRow)
-    (takes : (k : Option (Model NameRow)) → Holds name_same (memoryOf d).base second k → TakesJust name_same k t)
-    (states : (k : Option (Model NameRow)) → Holds name_same (memoryOf d).base second k → t.states ≡ statesOf k) where
+    (takes : (k : Option (Model NameRow)) → Holds name_same (memory_of d).base second k → TakesJust name_same k t)
+    (states : (k : Option (Model NameRow)) → Holds name_same (memory_of d).base second k → t.states ≡ states_of k) where
   -- the lists have room
   few : pairs t m ≤ 4290
   few =
@@ -53,13 +53,13 @@ module _ (d : Desk) (ms : Models) (h : Has d ms) (first second : ℕ) (m n : Mod
       let b : t.states + 1 ≤ 66 = omega (arith, G.few) in
       mul-le-mul a b
 
-  of_says : (r : Result Compared Fault) (word' : List ℕ) → CompareSays name_same t m (length d.work) d.word r word' → OfVerdict (compareAnswer r)
+  of_says : (r : Result Compared Fault) (word' : List ℕ) → CompareSays name_same t m (length d.work) d.word r word' → OfVerdict (answer_of_compare r)
   of_says r word' (little_work l) = omega (arith, few, h.roomy.work)
   of_says r word' (little_word l k) = omega (arith, few, h.roomy.word)
   of_says r word' (included l k f) = tt
   of_says r word' (missed l k f) = tt
 
-  told : (r : Result Compared Fault) (word' : List ℕ) → CompareSays name_same t m (length d.work) d.word r word' → (v : Verdict) → compareAnswer r ≡ answer_of v → Found m n v word'
+  told : (r : Result Compared Fault) (word' : List ℕ) → CompareSays name_same t m (length d.work) d.word r word' → (v : Verdict) → answer_of_compare r ≡ answer_of v → Found m n v word'
   told r word' (little_work l) v e = absurd (omega (arith, few, h.roomy.work))
   told r word' (little_word l k) v e = absurd (omega (arith, few, h.roomy.word))
   told r word' (included l k f) verdict.Included e = taken_included name_same t n (takes (Some n) (stands_at d ms h second n q)) m f
@@ -70,7 +70,7 @@ module _ (d : Desk) (ms : Models) (h : Has d ms) (first second : ℕ) (m n : Mod
       (w, astray_missed name_same t n (takes (Some n) (stands_at d ms h second n q)) m w f, z, take_at w (drop (length w) d.word) i (sym z))
 
   module _ (e : Desk) (a : Answer) (c : Called d (compares first t) a e) where
-    says : (r : Result Compared Fault) × (a ≡ compareAnswer r) × CompareSays name_same t m (length d.work) d.word r e.word
+    says : (r : Result Compared Fault) × (a ≡ answer_of_compare r) × CompareSays name_same t m (length d.work) d.word r e.word
     says =
         let s = (c.agrees (slice_get ms) h.holds).0 in
         let b = (formed_at d ms h first m p).0 in (
@@ -89,6 +89,6 @@ module _ (d : Desk) (ms : Models) (h : Has d ms) (first second : ℕ) (m n : Mod
           told s.0 e.word s.2 v (sym s.1 ∙ f),
           record {
             roomy = c.roomy h.roomy;
-            holds = λ i. subst (Holds name_same (memoryOf e).base i) (cond_same (eqb i first) (slice_get ms i)) ((c.agrees (slice_get ms) h.holds).1 i);
+            holds = λ i. subst (Holds name_same (memory_of e).base i) (cond_same (eqb i first) (slice_get ms i)) ((c.agrees (slice_get ms) h.holds).1 i);
           },
         )

@@ -13,7 +13,7 @@ use Rattle.book.specs.declared.lines.Verdict.{Verdict}
 use Rattle.book.proofs.Shown.{shown_most}
 use Rattle.slip.specs.declared.desks.Desk.{Desk}
 use Rattle.slip.specs.Printed.{Judged}
-use Rattle.slip.specs.Desks.{Models, memoryOf, Has, Found, InRange, Short}
+use Rattle.slip.specs.Desks.{Models, memory_of, Has, Found, InRange, Short}
 use Rattle.slip.proofs.Comparing.{stands_at, formed_at}
 use Rattle.slip.proofs.Spelling.{found_range, found_short, found_judged, reader_symbols}
 
@@ -27,9 +27,9 @@ made_told (Ok u) P before after line e f = f e
 made_told (Err u) P before after line e f = tt
 
 module _ (e : Desk) (ms : Models) (h : Has e ms) (first second : ℕ) (m n : Model NameRow) (p : slice_get ms first ≡ Some m) (v : Verdict) (f : Found m n v e.word)
-    (xs : List NameRow) (followers : List ℕ) (sets : Sets) (exact : cells xs followers sets ≡ cells_of (memoryOf e).base first) where
+    (xs : List NameRow) (followers : List ℕ) (sets : Sets) (exact : cells xs followers sets ≡ cells_of (memory_of e).base first) where
   own : xs ≡ m.symbols
-  own = reader_symbols (memoryOf e).base first m xs followers sets exact (formed_at e ms h first m p).0 (stands_at e ms h first m p)
+  own = reader_symbols (memory_of e).base first m xs followers sets exact (formed_at e ms h first m p).0 (stands_at e ms h first m p)
 
   pub in_range : (count : ℕ) → count ≡ symbols_shown v → InRange (length xs) (take count e.word)
   in_range count z =

@@ -12,7 +12,7 @@ use Rattle.product.proofs.Astray.{marked_within}
 use Rattle.models.specs.declared.tables.Sets.{Sets}
 use Rattle.shelf.specs.declared.records.Record.{Record}
 use Rattle.shelf.specs.declared.records.Record.TheVariants.{Empty, Taken}
-use Rattle.shelf.specs.Places.{State, has, recordAt, cells, cellsAt, cells_of, Holds, HoldsAt}
+use Rattle.shelf.specs.Places.{State, has, record_at, cells, cells_at, cells_of, Holds, HoldsAt}
 use Rattle.book.specs.Line.{symbols_shown, forms_shown, dots, places_shown, verdict_shown, line_of, Places, LineRefused}
 use Rattle.book.specs.declared.lines.Verdict.{Verdict}
 use Rattle.book.specs.declared.lines.Verdict.TheVariants as verdict
@@ -99,12 +99,12 @@ module _ (m n : Model NameRow) (F : Formed m) (word : List ℕ) where
       (s, not_included f.1 f.2 refl, ap (λ (r : List NameRow). places_shown p q ++ verdict_shown row_bytes (verdict.Not l) r) u)
 
 -- the symbols that the reader of a place reads from are those of its model
-cells_symbols : (b : _) (found : Record) (ss : List NameRow) (ns : List ℕ) (p : ℕ) (m : Model NameRow) → b ≡ true → HoldsAt name_same found ss ns p (Some m) → (cellsAt b found ss ns p).symbols ≡ m.symbols
+cells_symbols : (b : _) (found : Record) (ss : List NameRow) (ns : List ℕ) (p : ℕ) (m : Model NameRow) → b ≡ true → HoldsAt name_same found ss ns p (Some m) → (cells_at b found ss ns p).symbols ≡ m.symbols
 cells_symbols b Empty ss ns p m e h = absurd h
-cells_symbols b (Taken k) ss ns p m e h = ap (λ c. (cellsAt c (Taken k) ss ns p).symbols) e ∙ h.1.tables.symbols
+cells_symbols b (Taken k) ss ns p m e h = ap (λ c. (cells_at c (Taken k) ss ns p).symbols) e ∙ h.1.tables.symbols
 
 pub reader_symbols : (s : State NameRow) (p : ℕ) (m : Model NameRow) (xs : List NameRow) (rows : List ℕ) (sets : Sets) → cells xs rows sets ≡ cells_of s p → has s p ≡ true → Holds name_same s p (Some m) → xs ≡ m.symbols
-reader_symbols s p m xs rows sets e b h = ap (λ c. c.symbols) e ∙ cells_symbols (has s p) (recordAt s.shelf p) s.symbols s.numbers p m b h
+reader_symbols s p m xs rows sets e b h = ap (λ c. c.symbols) e ∙ cells_symbols (has s p) (record_at s.shelf p) s.symbols s.numbers p m b h
 
 dots_most : (l : ℕ) → length (dots l) ≤ 4
 dots_most l = cond_both (ltb 8 l) (codes " ...") [] (λ (s : List ℕ). length s ≤ 4) (λ e. omega arith) (λ e. omega arith)

@@ -23,8 +23,8 @@ abbrev pub Models : Type 0
 Models = List (Model NameRow)
 
 -- what the calls on a desk may change
-abbrev pub memoryOf : Desk → Memory NameRow
-memoryOf d = memory (state d.shelf d.symbols d.numbers) d.work d.word
+abbrev pub memory_of : Desk → Memory NameRow
+memory_of d = memory (state d.shelf d.symbols d.numbers) d.work d.word
 
 -- the lists are long enough for sixteen places, and for each comparison of two of them
 pub record Roomy (d : Desk) : Type 0 where
@@ -36,16 +36,16 @@ pub record Roomy (d : Desk) : Type 0 where
 -- the desk has these models, in the first places of its shelf, and nothing in the others
 pub record Has (d : Desk) (ms : Models) : Type 0 where
   pub roomy : Roomy d
-  pub holds : Matches name_same (memoryOf d) (slice_get ms)
+  pub holds : Matches name_same (memory_of d) (slice_get ms)
 
 -- what a call says and leaves on a desk that matches the plain shelf
 abbrev pub Said : Desk → Request NameRow → Answer → Desk → Plain NameRow → Type 0
-Said d ask a e plain = Says name_same (has (memoryOf d).base) (length d.work) ask (plain (place_of ask)) d.word a e.word × Matches name_same (memoryOf e) (step ask a plain)
+Said d ask a e plain = Says name_same (has (memory_of d).base) (length d.work) ask (plain (place_of ask)) d.word a e.word × Matches name_same (memory_of e) (step ask a plain)
 
 -- one call was made on the desk d, which became e
 pub record Called (d : Desk) (ask : Request NameRow) (a : Answer) (e : Desk) : Type 0 where
-  pub did : Did name_same (memoryOf d) ask a (memoryOf e)
-  pub agrees : (plain : Plain NameRow) → Matches name_same (memoryOf d) plain → Said d ask a e plain
+  pub did : Did name_same (memory_of d) ask a (memory_of e)
+  pub agrees : (plain : Plain NameRow) → Matches name_same (memory_of d) plain → Said d ask a e plain
   pub roomy : Roomy d → Roomy e
 
 -- the answer is that of a load

@@ -4,7 +4,7 @@ ghost use Rattle.std.specs.List.{slice_get};
 ghost use Rattle.language.specs.Meaning.{Model, given};
 ghost use Rattle.symbols.specs.declared.name_rows.NameRow.{NameRow};
 ghost use Rattle.tables.specs.Tables.{Table};
-ghost use Rattle.comparison.specs.Runs.{request, loads, doneAnswer};
+ghost use Rattle.comparison.specs.Runs.{request, loads, answer_of_done};
 ghost use Rattle.slip.specs.Desks.{Both, Called, Found, Has, Models, Next, OfLoad, OfVerdict, Puts, Reads, answer_of};
 
 use crate::desks::{ALL, Desk, PAIRS, WORK};
@@ -37,7 +37,7 @@ fn loading<'x, R>(place: usize, codes: &'x [u8], names: &'x [NameRow]) -> Call<'
 /// What a load answered.
 fn done(answer: Answer) -> Result<(), Fault>
     requires { OfLoad answer }
-    ensures { answer ≡ doneAnswer result }
+    ensures { answer ≡ answer_of_done result }
 {
     match answer {
         Answer::Done => Ok(()),

@@ -1,8 +1,8 @@
 -- The row of a name's bytes has those bytes. Assumes nothing.
-use Rattle.std.proofs.Common.{◌≡◌, ℕ, ◌<◌, ◌≤◌, min, max, Bool, cond, List, ◌++◌, length, take, drop, replicate, sym, refl, ap, ◌∙◌, subst, inl, inr, arith}
+use Rattle.std.proofs.Common.{◌≡◌, ℕ, ◌<◌, ◌≤◌, min, Bool, cond, List, ◌++◌, length, take, drop, replicate, sym, ap, ◌∙◌, subst, inl, inr, arith}
 use Rattle.std.proofs.lemmas.List.{append_assoc, take-append-le, take_all}
 use Rattle.std.proofs.lemmas.Bool.{cases_lt}
-use Rattle.symbols.specs.Rule.{allowed, IsName}
+use Rattle.symbols.specs.Rule.{IsName}
 use Rattle.symbols.specs.Makings.{AllRight, WrongAt}
 use Rattle.symbols.specs.NameRows.{width, row_bytes, name_row, name_sized}
 use Rattle.symbols.specs.declared.name_rows.NameRow.{NameRow}

@@ -1,5 +1,5 @@
 -- The bytes of a row of a name, and when two rows are the same name. Assumes nothing.
-use Rattle.std.specs.Prelude.{◌≡◌, ℕ, min, max, Bool, true, ◌&&◌, List, [], ◌∷◌, ◌++◌, length, take, drop, replicate, ◌==◌, nat_le, slice_index, refl}
+use Rattle.std.specs.Prelude.{ℕ, min, max, Bool, ◌&&◌, List, ◌++◌, length, take, drop, replicate, ◌==◌, nat_le, slice_index, refl}
 use Rattle.std.proofs.Common.{sym, ap, ◌∙◌, arith}
 use Rattle.std.specs.Str.{bytes_eq}
 use Rattle.std.proofs.lemmas.Slice.Eq.{bytes_eq-Decides}

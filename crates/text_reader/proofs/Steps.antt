@@ -1,13 +1,13 @@
 -- One step of the reader. Assumes nothing.
 use Rattle.std.proofs.Common.{◌≡◌, ℕ, ◌+◌, ◌<◌, ◌≤◌, true, false, List, [], ◌∷◌, ◌++◌, length, Ok, Err, codes, Result, sym, refl, ap, ◌∙◌, subst, inl, inr, arith, Bor}
 use Rattle.faults.specs.declared.Fault.{Fault}
-use Rattle.tokens.specs.Tokens.{Tok, word, pcdata, opens, closes, bar, comma, query, star, plus, stray, strange, end, tok, tokenOf, Held, Peeked}
+use Rattle.tokens.specs.Tokens.{Tok, word, pcdata, opens, closes, bar, comma, query, star, plus, stray, strange, end, tok, token_of, Held, Peeked}
 use Rattle.tokens.specs.declared.types.Token.{Token}
 use Rattle.tokens.specs.declared.types.Token.TheVariants.{Name, Pcdata, Open, Close, Bar, Comma, Query, Star, Plus, Stray, Other, End}
 use Rattle.tokens.specs.declared.types.Piece.{Piece}
 use Rattle.grammar.specs.declared.Chain.{Chain}
 use Rattle.grammar.specs.Grammar.{code}
-use Rattle.grammar.specs.Reads.{Cause, long_name, too_many, cannot, joins, chainOf, Mark, Outcome, good, bad, Part, particle, body, onward, named, listed, Reads, p_name, p_long, p_many, p_group, b_goes_on, o_done, o_bad, o_next, o_none, n_name, n_long, n_many, l_done, l_bad, l_next, Mixes, x_text, x_star, x_name_bad, x_list_bad, x_names, x_no_star, Opens, c_empty, c_word, c_mixed, c_children, c_bad, Whole, w_good, w_left}
+use Rattle.grammar.specs.Reads.{Cause, long_name, too_many, cannot, joins, chain_of_tok, Mark, Outcome, good, bad, Part, particle, body, onward, named, listed, Reads, p_name, p_long, p_many, p_group, b_goes_on, o_done, o_bad, o_next, o_none, n_name, n_long, n_many, l_done, l_bad, l_next, Mixes, x_text, x_star, x_name_bad, x_list_bad, x_names, x_no_star, Opens, c_empty, c_word, c_mixed, c_children, c_bad, Whole, w_good, w_left}
 use Rattle.text_reader.specs.declared.output.Output.{Output}
 use Rattle.text_reader.specs.Answer.{fault_of}
 use Rattle.text_reader.specs.Output.{Holds, Grew}
@@ -29,7 +29,7 @@ Was stray x = x ≡ Stray
 Was strange x = x ≡ Other
 Was end x = x ≡ End
 
-was : (x : Token) → Was (tokenOf x) x
+was : (x : Token) → Was (token_of x) x
 was (Name n) = (n, refl)
 was Pcdata = refl
 was Open = refl
@@ -43,41 +43,41 @@ was Stray = refl
 was Other = refl
 was End = refl
 
-pub again : (x : Token) (k : Tok) → tokenOf x ≡ k → Was k x
+pub again : (x : Token) (k : Tok) → token_of x ≡ k → Was k x
 again x k e = subst (λ (v : Tok). Was v x) e (was x)
 
 -- what is known of the next token
 pub seen : {t : List ℕ} {i : ℕ} (r : Piece) (k : Tok) → Peeked t i r → tok t r.at ≡ k → Was k r.token
 seen r k p e = again r.token k (p.is ∙ e)
 
-pub is_tok : {t : List ℕ} {i : ℕ} (r : Piece) (x : Token) → Peeked t i r → r.token ≡ x → tok t r.at ≡ tokenOf x
-is_tok r x p e = sym p.is ∙ ap tokenOf e
+pub is_tok : {t : List ℕ} {i : ℕ} (r : Piece) (x : Token) → Peeked t i r → r.token ≡ x → tok t r.at ≡ token_of x
+is_tok r x p e = sym p.is ∙ ap token_of e
 
 pub holds_tok : {t : List ℕ} {i : ℕ} (r : Piece) (x : Token) → Peeked t i r → r.token ≡ x → Held t r.at x
 holds_tok {t} r x p e = subst (λ (v : Token). Held t r.at v) e p.held
 
 -- the fault of a token that can't follow
 refuses : (P : Outcome → Type 0) {t : List ℕ} {y : ℕ} (r : Piece) (x : Fault) → Peeked t y r →
-    x ≡ fault_of (cannot (tokenOf r.token)) r.at → P (bad (cannot (tok t r.at)) r.at) → Refuses P x
+    x ≡ fault_of (cannot (token_of r.token)) r.at → P (bad (cannot (tok t r.at)) r.at) → Refuses P x
 refuses P {t} r x p e h = (cannot (tok t r.at), r.at, h, e ∙ ap (λ (v : Tok). fault_of (cannot v) r.at) p.is)
 
 pub refused : {t : List ℕ} {s : Part} {e i c y : ℕ} (r : Piece) (x : Fault) → Peeked t y r →
-    x ≡ fault_of (cannot (tokenOf r.token)) r.at → Reads t s e i c (bad (cannot (tok t r.at)) r.at) →
+    x ≡ fault_of (cannot (token_of r.token)) r.at → Reads t s e i c (bad (cannot (tok t r.at)) r.at) →
     Refuses (λ o. Reads t s e i c o) x
 refused {t} {s} {e} {i} {c} r x p f h = refuses (λ o. Reads t s e i c o) r x p f h
 
 pub refused_mix : {t : List ℕ} {i y : ℕ} (r : Piece) (x : Fault) → Peeked t y r →
-    x ≡ fault_of (cannot (tokenOf r.token)) r.at → Mixes t i (bad (cannot (tok t r.at)) r.at) →
+    x ≡ fault_of (cannot (token_of r.token)) r.at → Mixes t i (bad (cannot (tok t r.at)) r.at) →
     Refuses (λ o. Mixes t i o) x
 refused_mix {t} {i} r x p f h = refuses (λ o. Mixes t i o) r x p f h
 
 pub refused_open : {t : List ℕ} {i y : ℕ} (r : Piece) (x : Fault) → Peeked t y r →
-    x ≡ fault_of (cannot (tokenOf r.token)) r.at → Opens t i (bad (cannot (tok t r.at)) r.at) →
+    x ≡ fault_of (cannot (token_of r.token)) r.at → Opens t i (bad (cannot (tok t r.at)) r.at) →
     Refuses (λ o. Opens t i o) x
 refused_open {t} {i} r x p f h = refuses (λ o. Opens t i o) r x p f h
 
 pub refused_whole : {t : List ℕ} {y : ℕ} (r : Piece) (x : Fault) → Peeked t y r →
-    x ≡ fault_of (cannot (tokenOf r.token)) r.at → Whole t (bad (cannot (tok t r.at)) r.at) →
+    x ≡ fault_of (cannot (token_of r.token)) r.at → Whole t (bad (cannot (tok t r.at)) r.at) →
     Refuses (λ o. Whole t o) x
 refused_whole {t} r x p f h = refuses (λ o. Whole t o) r x p f h
 
@@ -134,26 +134,26 @@ pub in_group : (t : List ℕ) (e x i k j : ℕ) (r : Piece) (o p q : Output) →
 in_group t e x i k j r o p q a s ex b m = (b.0 ++ m.0, b.1, p_group a.white (is_tok r Open a s) ex b.2 m.1, record { on = omega (arith, a.on, b.3.on, m.2); inside = m.3; grew = with_codes b.0 m.0 b.1 b.3.grew m.4 })
 
 pub in_body : (t : List ℕ) (e i k : ℕ) (r : Piece) (g : Chain) (o p q : Output) (x : Result ℕ Fault) →
-    Good t particle e i o k p → Peeked t k r → g ≡ chainOf (tokenOf r.token) → Did t (onward g) e k p x q →
+    Good t particle e i o k p → Peeked t k r → g ≡ chain_of_tok (token_of r.token) → Did t (onward g) e k p x q →
     Did t body e i o x q
-in_body t e i k r g o p q (Ok j) a u h m = (a.0 ++ m.0, a.1 ++ m.1, b_goes_on a.2 u.white (h ∙ ap chainOf u.is) a.3.grew.found m.2, record { on = omega (arith, a.3.on, m.3.on); inside = m.3.inside; grew = both a.0 m.0 a.1 m.1 a.3.grew m.3.grew })
-in_body t e i k r g o p q (Err x) a u h m = (m.0, m.1, b_goes_on a.2 u.white (h ∙ ap chainOf u.is) a.3.grew.found m.2, m.3)
+in_body t e i k r g o p q (Ok j) a u h m = (a.0 ++ m.0, a.1 ++ m.1, b_goes_on a.2 u.white (h ∙ ap chain_of_tok u.is) a.3.grew.found m.2, record { on = omega (arith, a.3.on, m.3.on); inside = m.3.inside; grew = both a.0 m.0 a.1 m.1 a.3.grew m.3.grew })
+in_body t e i k r g o p q (Err x) a u h m = (m.0, m.1, b_goes_on a.2 u.white (h ∙ ap chain_of_tok u.is) a.3.grew.found m.2, m.3)
 
 pub in_close : (t : List ℕ) (g : Chain) (e i : ℕ) (r : Piece) (o : Output) → Peeked t i r → r.token ≡ Close →
     Good t (onward g) e i o (r.at + 1) o
 in_close t g e i r o a s = ([], [], o_done a.white (is_tok r Close a s), record { on = omega (arith, a.on); inside = omega (arith, holds_tok r Close a s); grew = still o })
 
 pub in_none : (t : List ℕ) (g : Chain) (e i c : ℕ) (r : Piece) → Peeked t i r → (r.token ≡ Close → ⊥) →
-    false ≡ joins g (tokenOf r.token) → Reads t (onward g) e i c (bad (cannot (tok t r.at)) r.at)
+    false ≡ joins g (token_of r.token) → Reads t (onward g) e i c (bad (cannot (tok t r.at)) r.at)
 in_none t g e i c r a f s = o_none a.white (λ h. f (seen r closes a h)) (ap (joins g) (sym a.is) ∙ sym s)
 
 pub in_next_bad : (t : List ℕ) (g : Chain) (e i : ℕ) (r : Piece) (o : Output) (x : Fault) → Peeked t i r →
-    true ≡ joins g (tokenOf r.token) → Refuses (λ z. Reads t particle e (r.at + 1) o.found z) x →
+    true ≡ joins g (token_of r.token) → Refuses (λ z. Reads t particle e (r.at + 1) o.found z) x →
     Refuses (λ z. Reads t (onward g) e i o.found z) x
 in_next_bad t g e i r o x a s h = (h.0, h.1, o_bad a.white (ap (joins g) (sym a.is) ∙ sym s) h.2, h.3)
 
 pub in_next : (t : List ℕ) (g : Chain) (e i k : ℕ) (r : Piece) (b : ℕ) (o p p' q : Output) (x : Result ℕ Fault) →
-    Peeked t i r → true ≡ joins g (tokenOf r.token) → Good t particle e (r.at + 1) o k p → b ≡ code g →
+    Peeked t i r → true ≡ joins g (token_of r.token) → Good t particle e (r.at + 1) o k p → b ≡ code g →
     Grew p p' (b ∷ []) [] → Did t (onward g) e k p' x q → Did t (onward g) e i o x q
 in_next t g e i k r b o p p' q (Ok j) a s c f h m =
     let h' : Grew p p' (code g ∷ []) [] = subst (λ (z : ℕ). Grew p p' (z ∷ []) []) f h in
@@ -183,7 +183,7 @@ from_none {t} {s} {e} {i} {c} {o} z r = subst (λ (y : ℕ). Reads t s e i y o) 
 
 -- mixed models, whole
 pub mix_text : (t : List ℕ) (i : ℕ) (r : Piece) (x : Token) (o p : Output) → Peeked t i r → r.token ≡ Close →
-    tokenOf x ≡ tok t (r.at + 1) → (x ≡ Star → ⊥) → Grew o p (0 ∷ []) [] → DidMix t i o (Ok (r.at + 1)) p
+    token_of x ≡ tok t (r.at + 1) → (x ≡ Star → ⊥) → Grew o p (0 ∷ []) [] → DidMix t i o (Ok (r.at + 1)) p
 mix_text t i r x o p a s e f g = (0 ∷ [], [], x_text a.white (is_tok r Close a s) (λ h. f (again x star (e ∙ h))), omega (arith, holds_tok r Close a s), g)
 
 pub mix_star : (t : List ℕ) (i : ℕ) (r : Piece) (o p : Output) → Peeked t i r → r.token ≡ Close →
@@ -205,7 +205,7 @@ pub mix_names : (t : List ℕ) (i k j : ℕ) (r : Piece) (o p q q' : Output) →
 mix_names t i k j r o p q q' a s z h l e f g = ((h.0 ++ l.0) ++ (5 ∷ []), h.1 ++ l.1, x_names a.white (is_tok r Bar a s) (from_none z h.2) (omega (arith, h.3.grew.found)) l.2 (sym e), omega arith, with_codes (h.0 ++ l.0) (5 ∷ []) (h.1 ++ l.1) (both h.0 l.0 h.1 l.1 h.3.grew l.3.grew) g)
 
 pub mix_no_star : (t : List ℕ) (i k j : ℕ) (r y : Piece) (u : Token) (o p q : Output) → Peeked t i r → r.token ≡ Bar →
-    o.found ≡ 0 → Good t named 15 (r.at + 1) o k p → Good t listed 15 k p j q → tokenOf u ≡ tok t j → (u ≡ Star → ⊥) →
+    o.found ≡ 0 → Good t named 15 (r.at + 1) o k p → Good t listed 15 k p j q → token_of u ≡ tok t j → (u ≡ Star → ⊥) →
     Peeked t j y → Mixes t i (bad (cannot (tok t y.at)) y.at)
 mix_no_star t i k j r y u o p q a s z h l e f b = x_no_star a.white (is_tok r Bar a s) (from_none z h.2) (omega (arith, h.3.grew.found)) l.2 (λ v. f (again u star (e ∙ v))) b.white
 

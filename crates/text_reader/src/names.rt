@@ -1,6 +1,6 @@
 // Names, and the refusal of a token.
 ghost use Rattle.std.specs.Prelude.{◌≡◌, ◌+◌, ◌≤◌, length};
-ghost use Rattle.tokens.specs.Tokens.{tokenOf};
+ghost use Rattle.tokens.specs.Tokens.{token_of};
 ghost use Rattle.grammar.specs.Reads.{cannot};
 ghost use Rattle.text_reader.specs.Answer.{fault_of};
 ghost use Rattle.text_reader.specs.Parts.{Keeps};
@@ -15,7 +15,7 @@ const MOST_BYTES: usize = 32;
 
 /// The fault of a token that can't follow.
 pub(crate) fn refuse(piece: Piece<'_>) -> Fault
-    ensures { result ≡ fault_of (cannot (tokenOf piece.entry.token)) piece.entry.at }
+    ensures { result ≡ fault_of (cannot (token_of piece.entry.token)) piece.entry.at }
 {
     match piece.token {
         Token::Other => Fault::StrangeByte { at: piece.at },

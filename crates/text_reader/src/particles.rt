@@ -1,8 +1,8 @@
 // Particles: names and groups with their marks, where a group holds particles.
 ghost use Rattle.std.specs.Prelude.{◌≡◌, ◌≤◌, length};
-ghost use Rattle.tokens.specs.Tokens.{tokenOf};
+ghost use Rattle.tokens.specs.Tokens.{token_of};
 ghost use Rattle.grammar.specs.Grammar.{code};
-ghost use Rattle.grammar.specs.Reads.{joins, chainOf, particle, body, onward};
+ghost use Rattle.grammar.specs.Reads.{joins, chain_of_tok, particle, body, onward};
 ghost use Rattle.text_reader.specs.Parts.{Did, DidMark};
 
 use super::names::{refuse, take_name};
@@ -14,7 +14,7 @@ use tokens::{peek, token_at};
 
 /// Whether a token is the sign of a chain.
 fn is_sign(token: Token<'_>, chain: Chain) -> bool
-    ensures { result ≡ joins chain (tokenOf token.entry) }
+    ensures { result ≡ joins chain (token_of token.entry) }
 {
     match token {
         Token::Bar => match chain {
@@ -31,7 +31,7 @@ fn is_sign(token: Token<'_>, chain: Chain) -> bool
 
 /// Which chain goes on with this token behind its first particle.
 fn chain_of(token: Token<'_>) -> Chain
-    ensures { result ≡ chainOf (tokenOf token.entry) }
+    ensures { result ≡ chain_of_tok (token_of token.entry) }
 {
     match token {
         Token::Bar => Chain::Choice,

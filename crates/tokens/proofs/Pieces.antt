@@ -1,6 +1,6 @@
 -- The first token from an offset on is one. Assumes nothing.
 use Rattle.std.proofs.Common.{◌≡◌, ℕ, ◌+◌, List, [], length, sym, refl, ap, ◌∙◌, subst}
-use Rattle.tokens.specs.Tokens.{Tok, word, pcdata, opens, closes, bar, comma, query, star, plus, stray, strange, end, tokenOf, bytes_of, tok, Named, Held, slice, OnePiece}
+use Rattle.tokens.specs.Tokens.{Tok, word, pcdata, opens, closes, bar, comma, query, star, plus, stray, strange, end, token_of, bytes_of, tok, Named, Held, slice, OnePiece}
 use Rattle.tokens.specs.declared.types.Token.{Token}
 use Rattle.tokens.specs.declared.types.Token.TheVariants.{Name, Pcdata, Open, Close, Bar, Comma, Query, Star, Plus, Stray, Other, End}
 use Rattle.tokens.proofs.Runs.{one_end}
@@ -20,7 +20,7 @@ Bytes t i stray n = n ≡ []
 Bytes t i strange n = n ≡ []
 Bytes t i end n = n ≡ []
 
-bytes_are : (t : List ℕ) (i : ℕ) (x : Token) → Held t i x → Bytes t i (tokenOf x) (bytes_of x)
+bytes_are : (t : List ℕ) (i : ℕ) (x : Token) → Held t i x → Bytes t i (token_of x) (bytes_of x)
 bytes_are t i (Name n) h = h
 bytes_are t i Pcdata h = refl
 bytes_are t i Open h = refl
@@ -57,7 +57,7 @@ one_bytes t i end n n' a b = b ∙ sym a
 pub one_piece : OnePiece
 one_piece t i r r' p p' =
     let e : r'.at ≡ r.at = one_end p.white p'.white in
-    let k : tokenOf r'.token ≡ tokenOf r.token = p'.is ∙ ap (tok t) e ∙ sym p.is in
+    let k : token_of r'.token ≡ token_of r.token = p'.is ∙ ap (tok t) e ∙ sym p.is in
     let h = bytes_are t r.at r.token p.held in
     let h' = bytes_are t r.at r'.token (subst (λ (j : ℕ). Held t j r'.token) e p'.held) in
-    (e, k, one_bytes t r.at (tokenOf r.token) (bytes_of r.token) (bytes_of r'.token) h (subst (λ (v : Tok). Bytes t r.at v (bytes_of r'.token)) k h'))
+    (e, k, one_bytes t r.at (token_of r.token) (bytes_of r.token) (bytes_of r'.token) h (subst (λ (v : Tok). Bytes t r.at v (bytes_of r'.token)) k h'))

@@ -4,7 +4,7 @@ use Rattle.std.proofs.lemmas.List.{get_or_past}
 use Rattle.std.proofs.str.Laws.{order}
 use Rattle.symbols.specs.Rule.{inner}
 use Rattle.tokens.specs.Bytes.{class_of}
-use Rattle.tokens.specs.Tokens.{tok, byClass, pcdataAt, begins, While, stop, on, Longest, Named, slice, end}
+use Rattle.tokens.specs.Tokens.{tok, by_class, pcdata_at, begins, While, stop, on, Longest, Named, slice, end}
 use Rattle.tokens.specs.declared.types.Class.{Class}
 
 -- one more byte at the end of a run
@@ -37,17 +37,17 @@ pub run_inside : (p : ℕ → Bool) (t : List ℕ) {i j : ℕ} → p 0 ≡ false
 run_inside p t z stop h = h
 run_inside p t z (on {i = i} e r) h = run_inside p t z r (⊎_elim (λ l. omega arith) (λ l. absurd (not_both (ap p (sym (get_or_past t i 0 l)) ∙ e) z)) (order i (length t)))
 
-pub tok_in : (t : List ℕ) (i : ℕ) → i < length t → tok t i ≡ byClass (class_of (get_or t i 0)) (pcdataAt t i)
+pub tok_in : (t : List ℕ) (i : ℕ) → i < length t → tok t i ≡ by_class (class_of (get_or t i 0)) (pcdata_at t i)
 unfolding tok
-tok_in t i h = ap (λ (v : Bool). cond v (byClass (class_of (get_or t i 0)) (pcdataAt t i)) end) (lt-ltb i (length t) h)
+tok_in t i h = ap (λ (v : Bool). cond v (by_class (class_of (get_or t i 0)) (pcdata_at t i)) end) (lt-ltb i (length t) h)
 
 pub tok_past : (t : List ℕ) (i : ℕ) → length t ≤ i → tok t i ≡ end
 unfolding tok
-tok_past t i h = ap (λ (v : Bool). cond v (byClass (class_of (get_or t i 0)) (pcdataAt t i)) end) (le-ltb i (length t) h)
+tok_past t i h = ap (λ (v : Bool). cond v (by_class (class_of (get_or t i 0)) (pcdata_at t i)) end) (le-ltb i (length t) h)
 
 pub class_tok : (t : List ℕ) (i : ℕ) (k : Class) → i < length t → k ≡ class_of (get_or t i 0) →
-    byClass k (pcdataAt t i) ≡ tok t i
-class_tok t i k h e = ap (λ (v : Class). byClass v (pcdataAt t i)) e ∙ sym (tok_in t i h)
+    by_class k (pcdata_at t i) ≡ tok t i
+class_tok t i k h e = ap (λ (v : Class). by_class v (pcdata_at t i)) e ∙ sym (tok_in t i h)
 
 -- what begins with a word is as long
 pub begins_long : (w s : List ℕ) → begins w s ≡ true → length w ≤ length s

@@ -5,7 +5,7 @@ use Rattle.std.proofs.lemmas.Bool.Decides.{nat_tests}
 use Rattle.std.proofs.str.Laws.{order}
 use Rattle.symbols.specs.Rule.{start, only}
 use Rattle.tokens.specs.Bytes.{class_of, white}
-use Rattle.tokens.specs.Tokens.{Tok, word, pcdata, opens, closes, bar, comma, query, star, plus, stray, strange, end, tok, byClass, pcdataAt}
+use Rattle.tokens.specs.Tokens.{Tok, word, pcdata, opens, closes, bar, comma, query, star, plus, stray, strange, end, tok, by_class, pcdata_at}
 use Rattle.tokens.specs.declared.types.Class.{Class}
 use Rattle.tokens.specs.declared.types.Class.TheVariants.{NameStart, NameOnly, White, Open, Close, Bar, Comma, Query, Star, Plus, Hash, Other}
 use Rattle.tokens.proofs.Runs.{tok_in, tok_past}
@@ -33,20 +33,20 @@ hash : (b : ℕ) (p : Bool) → Says (cond p pcdata stray) b p
 hash b true = refl
 hash b false = tt
 
-says_class : (b : ℕ) (p : Bool) → Says (byClass (class_of b) p) b p
+says_class : (b : ℕ) (p : Bool) → Says (by_class (class_of b) p) b p
 says_class b p =
-    let P : Class → Type 0 = λ k. Says (byClass k p) b p in
+    let P : Class → Type 0 = λ k. Says (by_class k p) b p in
     if_class P (start b) NameStart _ (λ e. e) (λ _. if_class P (only b) NameOnly _ (λ _. tt) (λ _. if_class P (white b) White _ (λ _. tt) (λ _.
     if_class P (eqb b 40) Open _ (λ e. eqb-true b 40 e) (λ _. if_class P (eqb b 41) Close _ (λ e. eqb-true b 41 e) (λ _.
     if_class P (eqb b 124) Bar _ (λ e. eqb-true b 124 e) (λ _. if_class P (eqb b 44) Comma _ (λ e. eqb-true b 44 e) (λ _.
     if_class P (eqb b 63) Query _ (λ e. eqb-true b 63 e) (λ _. if_class P (eqb b 42) Star _ (λ e. eqb-true b 42 e) (λ _.
     if_class P (eqb b 43) Plus _ (λ e. eqb-true b 43 e) (λ _. if_class P (eqb b 35) Hash Other (λ _. hash b p) (λ _. tt)))))))))))
 
-pub tok_says : (t : List ℕ) (i : ℕ) (k : Tok) → tok t i ≡ k → Says k (get_or t i 0) (pcdataAt t i)
+pub tok_says : (t : List ℕ) (i : ℕ) (k : Tok) → tok t i ≡ k → Says k (get_or t i 0) (pcdata_at t i)
 tok_says t i k e =
     ⊎_elim
-    (λ h. subst (λ (v : Tok). Says v (get_or t i 0) (pcdataAt t i)) (sym (tok_in t i h) ∙ e) (says_class (get_or t i 0) (pcdataAt t i)))
-    (λ h. subst (λ (v : Tok). Says v (get_or t i 0) (pcdataAt t i)) (sym (tok_past t i h) ∙ e) tt)
+    (λ h. subst (λ (v : Tok). Says v (get_or t i 0) (pcdata_at t i)) (sym (tok_in t i h) ∙ e) (says_class (get_or t i 0) (pcdata_at t i)))
+    (λ h. subst (λ (v : Tok). Says v (get_or t i 0) (pcdata_at t i)) (sym (tok_past t i h) ∙ e) tt)
     (order i (length t))
 
 -- a byte that is not 0 stands inside the text
@@ -54,8 +54,8 @@ pub byte_inside : (t : List ℕ) (i b : ℕ) → get_or t i 0 ≡ b → 0 < b �
 byte_inside t i b e h = ⊎_elim (λ l. l) (λ l. absurd (let z = get_or_past t i 0 l in omega arith)) (order i (length t))
 
 pub tok_of : (t : List ℕ) (i b : ℕ) (k : Class) → get_or t i 0 ≡ b → 0 < b → class_of b ≡ k →
-    tok t i ≡ byClass k (pcdataAt t i)
-tok_of t i b k e h f = tok_in t i (byte_inside t i b e h) ∙ ap (λ (v : Class). byClass v (pcdataAt t i)) (ap class_of e ∙ f)
+    tok t i ≡ by_class k (pcdata_at t i)
+tok_of t i b k e h f = tok_in t i (byte_inside t i b e h) ∙ ap (λ (v : Class). by_class v (pcdata_at t i)) (ap class_of e ∙ f)
 
 start_some : (b : ℕ) → start b ≡ true → 0 < b
 start_some b h = grind (arith, nat_tests)
@@ -80,7 +80,7 @@ tok_white t i e =
     let b = get_or t i 0 in
     tok_of t i b White refl (white_some b e) (third (start b) (only b) (white b) NameStart NameOnly White _ (white_other b e) (white_other' b e) e)
 
-pub tok_pcdata : (t : List ℕ) (i : ℕ) → get_or t i 0 ≡ 35 → pcdataAt t i ≡ true → tok t i ≡ pcdata
+pub tok_pcdata : (t : List ℕ) (i : ℕ) → get_or t i 0 ≡ 35 → pcdata_at t i ≡ true → tok t i ≡ pcdata
 tok_pcdata t i e p = tok_of t i 35 Hash e (omega arith) refl ∙ ap (λ (v : Bool). cond v pcdata stray) p
 
 pub tok_open : (t : List ℕ) (i : ℕ) → get_or t i 0 ≡ 40 → tok t i ≡ opens

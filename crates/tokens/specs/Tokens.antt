@@ -1,5 +1,5 @@
 -- The tokens of a content model. Assumes nothing.
-use Rattle.std.specs.Prelude.{◌≡◌, ℕ, ◌+◌, ◌-◌, ◌<◌, ◌≤◌, Bool, true, false, cond, List, [], ◌∷◌, length, drop, codes, ◌==◌, nat_lt, slice_index, slice_range}
+use Rattle.std.specs.Prelude.{◌≡◌, ℕ, ◌+◌, ◌<◌, ◌≤◌, Bool, true, false, cond, List, [], ◌∷◌, length, drop, codes, ◌==◌, nat_lt, slice_index, slice_range}
 use Rattle.symbols.specs.Rule.{inner}
 use Rattle.tokens.specs.Bytes.{class_of, white}
 use Rattle.tokens.specs.declared.types.Class.{Class}
@@ -25,19 +25,19 @@ pub data Tok : Type 0 where
   end : Tok
 
 -- the kind of a token
-abbrev pub tokenOf : Token → Tok
-tokenOf (Name n) = word
-tokenOf Pcdata = pcdata
-tokenOf Open' = opens
-tokenOf Close' = closes
-tokenOf Bar' = bar
-tokenOf Comma' = comma
-tokenOf Query' = query
-tokenOf Star' = star
-tokenOf Plus' = plus
-tokenOf Stray = stray
-tokenOf Other' = strange
-tokenOf End = end
+abbrev pub token_of : Token → Tok
+token_of (Name n) = word
+token_of Pcdata = pcdata
+token_of Open' = opens
+token_of Close' = closes
+token_of Bar' = bar
+token_of Comma' = comma
+token_of Query' = query
+token_of Star' = star
+token_of Plus' = plus
+token_of Stray = stray
+token_of Other' = strange
+token_of End = end
 
 -- whether s begins with the bytes w
 abbrev pub begins : List ℕ → List ℕ → Bool
@@ -46,27 +46,27 @@ begins (x ∷ w) [] = false
 begins (x ∷ w) (b ∷ s) = cond (b == x) (begins w s) false
 
 -- whether #PCDATA stands at i
-abbrev pub pcdataAt : List ℕ → ℕ → Bool
-pcdataAt t i = begins (codes "#PCDATA") (drop i t)
+abbrev pub pcdata_at : List ℕ → ℕ → Bool
+pcdata_at t i = begins (codes "#PCDATA") (drop i t)
 
 -- what kind of token a byte of the class begins, where p says whether #PCDATA stands there
-abbrev pub byClass : Class → Bool → Tok
-byClass NameStart p = word
-byClass NameOnly p = stray
-byClass White p = stray
-byClass Open p = opens
-byClass Close p = closes
-byClass Bar p = bar
-byClass Comma p = comma
-byClass Query p = query
-byClass Star p = star
-byClass Plus p = plus
-byClass Hash p = cond p pcdata stray
-byClass Other p = strange
+abbrev pub by_class : Class → Bool → Tok
+by_class NameStart p = word
+by_class NameOnly p = stray
+by_class White p = stray
+by_class Open p = opens
+by_class Close p = closes
+by_class Bar p = bar
+by_class Comma p = comma
+by_class Query p = query
+by_class Star p = star
+by_class Plus p = plus
+by_class Hash p = cond p pcdata stray
+by_class Other p = strange
 
 -- what kind of token begins at i; at the text's length and past it stands the end
 unfoldable pub tok : List ℕ → ℕ → Tok
-tok t i = cond (nat_lt i (length t)) (byClass (class_of (slice_index t i)) (pcdataAt t i)) end
+tok t i = cond (nat_lt i (length t)) (by_class (class_of (slice_index t i)) (pcdata_at t i)) end
 
 -- each byte from i up to j, without j, passes the test p; past the end of the text a byte counts as 0
 pub data While (p : ℕ → Bool) (t : List ℕ) : ℕ → ℕ → Type 0 where
@@ -109,7 +109,7 @@ pub record Peeked (t : List ℕ) (i : ℕ) (r : Piece) : Type 0 where
   pub white : Longest white t i r.at
   pub on : i ≤ r.at
   pub inside : i ≤ length t → r.at ≤ length t
-  pub is : tokenOf r.token ≡ tok t r.at
+  pub is : token_of r.token ≡ tok t r.at
   pub held : Held t r.at r.token
 
 -- the bytes of a name, and none where the token is no name
@@ -130,4 +130,4 @@ bytes_of End = []
 -- the first token from i on has one offset, one kind and one list of bytes
 abbrev pub OnePiece : Type 0
 OnePiece = (t : List ℕ) (i : ℕ) (r r' : Piece) → Peeked t i r → Peeked t i r' →
-    (r'.at ≡ r.at) × (tokenOf r'.token ≡ tokenOf r.token) × (bytes_of r'.token ≡ bytes_of r.token)
+    (r'.at ≡ r.at) × (token_of r'.token ≡ token_of r.token) × (bytes_of r'.token ≡ bytes_of r.token)

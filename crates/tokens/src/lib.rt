@@ -4,7 +4,7 @@
 ghost use Rattle.std.specs.Prelude.{◌≡◌, ◌≤◌, length, codes};
 ghost use Rattle.symbols.specs.Rule.{inner};
 ghost use Rattle.tokens.specs.Bytes.{white};
-ghost use Rattle.tokens.specs.Tokens.{tokenOf, tok, Longest, Held, Peeked, begins, OnePiece};
+ghost use Rattle.tokens.specs.Tokens.{token_of, tok, Longest, Held, Peeked, begins, OnePiece};
 
 pub mod classes;
 pub mod types;
@@ -50,7 +50,7 @@ fn is_pcdata(bytes: &[u8]) -> bool
 
 /// The token that begins right at `at`; white space there is a token that can't follow any.
 pub fn token_at(text: &[u8], at: usize) -> Token<'_>
-    ensures is { tokenOf result ≡ tok text.now at }
+    ensures is { token_of result ≡ tok text.now at }
     ensures held { Held text.now at result }
 {
     if at >= text.len() {

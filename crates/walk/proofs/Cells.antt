@@ -24,7 +24,7 @@ pub used_none : (n : ℕ) → used (replicate n 0) ≡ 0
 used_none zero = refl
 used_none (suc n) = omega (arith, used_none n)
 
-pub getD_none : (n i : ℕ) → get_or {A = ℕ} (replicate n 0) i 0 ≡ 0
-getD_none zero i = refl
-getD_none (suc n) zero = refl
-getD_none (suc n) (suc i) = getD_none n i
+pub get_or_none : (n i : ℕ) → get_or {A = ℕ} (replicate n 0) i 0 ≡ 0
+get_or_none zero i = refl
+get_or_none (suc n) zero = refl
+get_or_none (suc n) (suc i) = get_or_none n i

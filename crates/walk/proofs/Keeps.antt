@@ -8,7 +8,7 @@ use Rattle.walk.specs.Graph.Leads.{stay}
 use Rattle.walk.specs.Walk.{link_of, start_link, Traced, Followed, Linked, Entries, Walked, Entered}
 use Rattle.walk.specs.Walk.Traced.{origin, from}
 use Rattle.walk.proofs.Words.{before_trans, before_more, before_last, before_longer}
-use Rattle.walk.proofs.Cells.{used_set, used_none, used_room, used_le, getD_none}
+use Rattle.walk.proofs.Cells.{used_set, used_none, used_room, used_le, get_or_none}
 use Rattle.walk.proofs.Minimal.{leads_more}
 
 -- an edge that was followed before label l + 1 was followed before label l, or is that of label l
@@ -191,14 +191,14 @@ begin {G = G} S n queue m r =
         word = λ _. [];
         cells = length-set zeros s start_link ∙ long ∙ m;
         room = rw (length-set queue 0 s) r;
-        counted = sym (used_set zeros s start_link (omega (arith, S.starts)) (getD_none n s) (omega arith) ∙ ap (λ k. k + 1) (used_none n));
+        counted = sym (used_set zeros s start_link (omega (arith, S.starts)) (get_or_none n s) (omega arith) ∙ ap (λ k. k + 1) (used_none n));
         some = omega arith;
         empty = refl;
         first = queue_end;
         inside = only (λ i. get_or (set queue 0 s) i 0 < G.nodes) (rw queue_end S.starts);
         once = λ i j a b. absurd (let z : ⊥ = omega arith in z);
         marked = only (λ i. get_or (set zeros s start_link) (get_or (set queue 0 s) i 0) 0 ≡ 0 → ⊥) (rw (queue_end, link_end) (λ z. omega arith));
-        placed = λ x a b. elim (cases_eq x s) [ inl e ↦ (0, omega arith, queue_end ∙ sym e) | inr e ↦ absurd (b (get_or-set_other zeros s x start_link 0 e ∙ getD_none n x)) ];
+        placed = λ x a b. elim (cases_eq x s) [ inl e ↦ (0, omega arith, queue_end ∙ sym e) | inr e ↦ absurd (b (get_or-set_other zeros s x start_link 0 e ∙ get_or_none n x)) ];
         leads = only (λ i. Leads G s [] (get_or (set queue 0 s) i 0)) (rw queue_end stay);
         linked = λ i z a. absurd (let b : ⊥ = omega arith in b);
         rising = λ i j a b. absurd (let z : ⊥ = omega arith in z);

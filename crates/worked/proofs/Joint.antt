@@ -5,7 +5,7 @@ use Rattle.language.specs.Meaning.{Model}
 use Rattle.tables.specs.Tables.{Sound}
 use Rattle.tables.proofs.PlaceLaws.{place_sound}
 use Rattle.shelf.specs.Places.{State, cells_of, Holds, table_of}
-use Rattle.shelf.specs.Calls.{statesOf, TakesJust}
+use Rattle.shelf.specs.Calls.{states_of, TakesJust}
 use Rattle.shelf.proofs.Refining.{reader_takes, reader_states}
 use Rattle.worked.specs.Models.{stars_star, either_star, stars, only_a, a_b, a_star}
 use Rattle.worked.specs.Cases.{Three, EachPlace, WorkedReaders, WorkedCases}
@@ -19,7 +19,7 @@ module _ {S : Type 0} (same : S → S → Bool) {foreign : S → Bool} (laws : K
   takes_at : (s : State S) (p : ℕ) (m : Model S) → Holds same s p (Some m) → TakesJust same (Some m) (table_of same s p)
   takes_at s p m h = reader_takes same laws s p (cells_of s p) refl (Some m) h
 
-  states_at : (s : State S) (p : ℕ) (m : Model S) → Holds same s p (Some m) → (table_of same s p).states ≡ statesOf (Some m)
+  states_at : (s : State S) (p : ℕ) (m : Model S) → Holds same s p (Some m) → (table_of same s p).states ≡ states_of (Some m)
   states_at s p m h = reader_states same s p (cells_of s p) refl (Some m) h
 
   module _ (a b x : S) (D : Three same foreign a b x) where

@@ -17,7 +17,7 @@ use Rattle.models.specs.Told.{Flawed, refused, ambiguous, TrialTold}
 use Rattle.models.proofs.Answered.{one_answer}
 use Rattle.shelf.specs.declared.records.Record.{Record}
 use Rattle.shelf.specs.declared.records.Record.TheVariants.{Empty, Taken}
-use Rattle.shelf.specs.Places.{room, recordAt, is_taken, has, HoldsAt}
+use Rattle.shelf.specs.Places.{room, record_at, is_taken, has, HoldsAt}
 use Rattle.shelf.specs.Calls.{Done, Judges, LoadEnds, TrialEnds}
 use Rattle.shelf.proofs.Refining.{full_is, try_refines}
 use Rattle.worked.specs.Models.{star_a_star, loop_then_b, a_then_star, stars_star, either_star, stars, empty_model, only_a, a_x_b, a_b, a_star, a_maybe_b}
@@ -72,7 +72,7 @@ module _ {S : Type 0} (same : S → S → Bool) where
   pub ends_with : (m : Model S) (r : Done) → Judges same m r → LoadEndsWith same m r
   ends_with m r j = record {
     judged = j;
-    answers = λ s t p q e h l. one_judgement m r q j (ends_judged (has s p) (is_taken (recordAt s.shelf p)) p m q e (full_is same (recordAt s.shelf p) s.symbols s.numbers p None h) l.ends);
+    answers = λ s t p q e h l. one_judgement m r q j (ends_judged (has s p) (is_taken (record_at s.shelf p)) p m q e (full_is same (record_at s.shelf p) s.symbols s.numbers p None h) l.ends);
   }
 
   -- a place that holds a model is there
@@ -88,7 +88,7 @@ module _ {S : Type 0} (same : S → S → Bool) where
   tried : (m : Model S) (word : List S) (v : Trial) → TrialTold same m word v → TrialAnswers same m word v
   tried m word v d = record {
     told = d;
-    answers = λ s p q h k. trial_one (has s p) p m word v q d (held_there (recordAt s.shelf p) s.symbols s.numbers p m h) ((try_refines same s p word q k).reply (Some m) h);
+    answers = λ s p q h k. trial_one (has s p) p m word v q d (held_there (record_at s.shelf p) s.symbols s.numbers p m h) ((try_refines same s p word q k).reply (Some m) h);
   }
 
   -- no symbol of the list is the same as one before it

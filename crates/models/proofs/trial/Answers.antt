@@ -1,6 +1,6 @@
 use Rattle.std.proofs.Common.{sym, refl, arith}
 use Rattle.std.proofs.lemmas.Bool.{both_ways}
-use Rattle.models.specs.Stepping.{mayEnd}
+use Rattle.models.specs.Stepping.{can_end}
 use Rattle.language.proofs.Reading.{goes_within, leads_word, ends_not, stuck_longest, whole_longest, leads_on, leads_all}
 use Rattle.models.proofs.Automata.{may_goes, goes_may, ends_end, end_ends}
 use Rattle.models.proofs.trial.Goals as goal
@@ -44,6 +44,6 @@ returns-else-may_end g c m t =
     let x = c.loop-i.state in
     let l = leads_all same m w c.loop-i.i x (omega arith) v.0 in (
       ends_not same m t.formed laws t.clear w x l
-          (λ e. both_ways (mayEnd c.args.sets x) (sym c.if-may_end.ensures) (end_ends same c.args.sets c.args.followers.now c.args.symbols.now m t x v.1 e)),
+          (λ e. both_ways (can_end c.args.sets x) (sym c.if-may_end.ensures) (end_ends same c.args.sets c.args.followers.now c.args.symbols.now m t x v.1 e)),
       whole_longest same m t.formed laws t.clear w x l,
     )

@@ -1,6 +1,6 @@
 use Rattle.std.proofs.Common.{◌≡◌, Bool, true, false, cond, drop, codes, sym, ap, ◌∙◌, arith, length-drop}
 use Rattle.std.proofs.lemmas.List.{take_rest}
-use Rattle.tokens.specs.Tokens.{begins, pcdata, stray, pcdataAt}
+use Rattle.tokens.specs.Tokens.{begins, pcdata, stray, pcdata_at}
 use Rattle.tokens.proofs.Runs.{tok_past, class_tok, named, begins_long}
 use Rattle.tokens.proofs.token_at.Goals as goal
 
@@ -13,7 +13,7 @@ returns-in-NameStart c = record { is = class_tok _ _ _ c.if-at-text.false c.in-N
 pub returns-then-is_pcdata : goal.returns-then-is_pcdata
 returns-then-is_pcdata c =
     let t = c.args.text.now in
-    let yes' : true ≡ pcdataAt t c.args.at = c.if-is_pcdata.ensures ∙ ap (begins (codes "#PCDATA")) (take_rest t c.args.at) in
+    let yes' : true ≡ pcdata_at t c.args.at = c.if-is_pcdata.ensures ∙ ap (begins (codes "#PCDATA")) (take_rest t c.args.at) in
     record {
       is = ap (λ (v : Bool). cond v pcdata stray) yes' ∙ class_tok _ _ _ c.if-at-text.false c.in-Hash.ensures;
       held = omega (arith, begins_long (codes "#PCDATA") (drop c.args.at t) (sym yes'), length-drop c.args.at t);
@@ -22,7 +22,7 @@ returns-then-is_pcdata c =
 pub returns-else-is_pcdata : goal.returns-else-is_pcdata
 returns-else-is_pcdata c =
     let t = c.args.text.now in
-    let no' : false ≡ pcdataAt t c.args.at = c.if-is_pcdata.ensures ∙ ap (begins (codes "#PCDATA")) (take_rest t c.args.at) in
+    let no' : false ≡ pcdata_at t c.args.at = c.if-is_pcdata.ensures ∙ ap (begins (codes "#PCDATA")) (take_rest t c.args.at) in
     record {
       is = ap (λ (v : Bool). cond v pcdata stray) no' ∙ class_tok _ _ _ c.if-at-text.false c.in-Hash.ensures;
       held = c.if-at-text.false;

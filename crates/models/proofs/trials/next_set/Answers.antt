@@ -1,4 +1,4 @@
-use Rattle.std.proofs.Common.{◌⊎◌, inl, inr, ⊎_elim}
+use Rattle.std.proofs.Common.{inl, inr, ⊎_elim}
 use Rattle.models.proofs.Automata.{next_none}
 use Rattle.models.proofs.trials.next_set.Goals as goal
 

@@ -1,7 +1,7 @@
 use Rattle.std.proofs.Common.{◌≡◌, ◌<◌, length, set, Ok, refl, arith, rules}
 use Rattle.std.proofs.lemmas.List.{get_or-set_same, get_or-set_other}
 use Rattle.shelf.specs.declared.records.Record.TheVariants.{Empty}
-use Rattle.shelf.specs.Places.{state, recordAt, is_taken, room}
+use Rattle.shelf.specs.Places.{state, record_at, is_taken, room}
 use Rattle.shelf.specs.Calls.{Withdraws}
 use Rattle.shelf.proofs.Refining.{room_below, stood, withdraw_refines}
 use Rattle.shelf.proofs.shelves.Shelf.withdraw.Goals as goal
@@ -12,7 +12,7 @@ returns g c =
     let records = c.args.self.now.records in
     let s = state c.args.self.now c.args.symbols.now c.args.numbers.now in
     let t = state (record { records = set records p Empty }) c.args.symbols.now c.args.numbers.now in
-    let here = (stood (room (length c.args.symbols.now) (length c.args.numbers.now) p) (is_taken (recordAt c.args.self.now p)) p c.in_ok-stand.field-0 c.in_ok-stand.ensures.exact).0 in
+    let here = (stood (room (length c.args.symbols.now) (length c.args.numbers.now) p) (is_taken (record_at c.args.self.now p)) p c.in_ok-stand.field-0 c.in_ok-stand.ensures.exact).0 in
     let below = room_below (length c.args.symbols.now) (length c.args.numbers.now) p here in
     let long : 16 ≡ length records = search rules in
     let lt : p < length records = omega arith in

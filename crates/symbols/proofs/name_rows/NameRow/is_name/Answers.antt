@@ -1,4 +1,4 @@
-use Rattle.std.proofs.Common.{◌≡◌, ℕ, Bool, cond, sym, refl, ap, arith}
+use Rattle.std.proofs.Common.{◌≡◌, ℕ, Bool, cond, refl, ap, arith}
 use Rattle.symbols.proofs.Rows.{right_name, wrong_name}
 use Rattle.symbols.proofs.name_rows.NameRow.is_name.Goals as goal
 
