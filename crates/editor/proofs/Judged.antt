@@ -1,5 +1,5 @@
 -- From a comparison of tables to the verdict on two models. Assumes nothing.
-use Rattle.std.proofs.Common.{◌≡◌, ℕ, ◌+◌, ◌*◌, ◌≤◌, min, true, false, ◌↔◌, List, length, take, Ok, Err, Result, sym, ap, ◌∙◌, subst, mul-le-mul, arith}
+use Rattle.std.proofs.Common.{◌≡◌, ℕ, ◌+◌, ◌*◌, ◌≤◌, ◌↔◌, List, length, take, Result, sym, ap, ◌∙◌, subst, mul-le-mul, arith}
 use Rattle.std.proofs.lemmas.List.{length-take}
 use Rattle.faults.specs.declared.Fault.{Fault}
 use Rattle.symbols.specs.NameRows.{name_same, name_laws}

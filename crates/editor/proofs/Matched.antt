@@ -1,15 +1,15 @@
 -- Names matched beforehand. Assumes nothing.
-use Rattle.std.proofs.Common.{◌≡◌, ℕ, zero, suc, ◌+◌, ◌-◌, ◌<◌, ◌≤◌, min, Bool, true, false, cond, ◌&&◌, eqb, leb, ◌⊎◌, List, [], ◌∷◌, length, get_or, take, Some, None, Option, sym, refl, ap, ◌∙◌, subst, ⊎_elim, add-zero, arith}
+use Rattle.std.proofs.Common.{◌≡◌, ℕ, zero, suc, ◌+◌, ◌-◌, ◌<◌, min, Bool, true, false, cond, ◌&&◌, eqb, leb, ◌⊎◌, List, [], ◌∷◌, length, get_or, take, Some, sym, refl, ap, ◌∙◌, ⊎_elim, add-zero, arith}
 use lib.Bits.{bit_and}
 use Rattle.std.proofs.lemmas.List.{take_all, get_or_past}
 use Rattle.std.proofs.lemmas.Bool.{eqb-true, ne_eqb, lt-leb, cond-false}
 use Rattle.symbols.specs.NameRows.{name_same}
 use Rattle.symbols.specs.declared.name_rows.NameRow.{NameRow}
 use Rattle.models.specs.declared.tables.Sets.{Sets}
-use Rattle.tables.specs.Tables.{Table, Alike}
-use Rattle.tables.specs.Places.{bit, sought, row_of, place_table}
+use Rattle.tables.specs.Tables.{Alike}
+use Rattle.tables.specs.Places.{bit, sought, row_of}
 use Rattle.editor.specs.declared.matching.Namesakes.{Namesakes}
-use Rattle.editor.specs.Matching.{Marks, markers, meets, match_table, lowest}
+use Rattle.editor.specs.Matching.{markers, meets, match_table, lowest}
 use Rattle.editor.proofs.Bits.{bit-bit_and}
 
 pub length-markers : (i n : ℕ) → length (markers i n) ≡ n

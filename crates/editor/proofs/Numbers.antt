@@ -1,6 +1,5 @@
 -- Two texts have one number. Assumes nothing.
-use Rattle.std.proofs.Common.{◌≡◌, ℕ, ◌+◌, List, sym, ap, ◌∙◌, subst}
-use Rattle.faults.specs.declared.Fault.{Fault}
+use Rattle.std.proofs.Common.{ℕ, ◌+◌, List, sym, ap, ◌∙◌, subst}
 use Rattle.faults.specs.Card.{number}
 use Rattle.symbols.specs.NameRows.{name_same, name_laws}
 use Rattle.symbols.specs.declared.name_rows.NameRow.{NameRow}
@@ -10,7 +9,7 @@ use Rattle.verdicts.specs.Verdicts.{Included, LeastMissed}
 use Rattle.verdicts.proofs.Formed.{texts_are_formed}
 use Rattle.verdicts.proofs.Meanings.{one_meaning}
 use Rattle.verdicts.proofs.Compared.{one_verdict}
-use Rattle.editor.specs.Answers.{Told, included, not_included, first_faulty, second_faulty, OneNumber}
+use Rattle.editor.specs.Answers.{included, not_included, first_faulty, second_faulty, OneNumber}
 
 -- the models of two texts are not both included and not
 clash : (t u : List ℕ) (m n m' n' : Model NameRow) (w : List ℕ) → Gives t m → Gives u n → Gives t m' → Gives u n' → Included name_same m n → LeastMissed name_same m' n' w → ⊥

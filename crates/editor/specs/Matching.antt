@@ -1,5 +1,5 @@
 -- Names matched beforehand: the positions that have a name, and a reader that is given them. Assumes nothing.
-use Rattle.std.specs.Prelude.{◌≡◌, ℕ, zero, suc, ◌+◌, ◌<◌, min, Bool, true, false, cond, List, [], ◌∷◌, length, get_or, Some, None, Option, nat_eq, slice_index_or, refl}
+use Rattle.std.specs.Prelude.{◌≡◌, ℕ, zero, suc, ◌+◌, ◌<◌, min, Bool, false, cond, List, [], ◌∷◌, length, get_or, Some, None, Option, nat_eq, slice_index_or, refl}
 use Rattle.std.proofs.Common.{sym, ◌∙◌}
 use Rattle.std.proofs.lemmas.Bool.{eq-eqb, eqb-true}
 use Rattle.symbols.specs.Kinds.{KindLaws}

@@ -1,5 +1,5 @@
 -- What is kept of a text that gives a model. Assumes nothing.
-use Rattle.std.specs.Prelude.{◌≡◌, ℕ, ◌+◌, ◌*◌, ◌≤◌, Bool, true, false, List, length, take, Ok, Err, Result}
+use Rattle.std.specs.Prelude.{◌≡◌, ℕ, ◌+◌, ◌*◌, Bool, true, false, List, length, take, Ok, Err, Result}
 use Rattle.faults.specs.declared.Fault.{Fault}
 use Rattle.symbols.specs.NameRows.{name_same}
 use Rattle.symbols.specs.declared.name_rows.NameRow.{NameRow}

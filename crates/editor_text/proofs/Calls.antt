@@ -1,5 +1,5 @@
 -- The calls have one answer, since the reader and the writer do. Assumes nothing.
-use Rattle.std.proofs.Common.{◌≡◌, sym, ap, ◌∙◌}
+use Rattle.std.proofs.Common.{sym, ap, ◌∙◌}
 use Rattle.text_reader.proofs.Final.{one_answer}
 use Rattle.text_writer.proofs.Answered as answered
 use Rattle.editor_text.specs.Calls.{number_of, counts_of, length_of, OneRead, OneWrite}

@@ -1,5 +1,5 @@
 -- What the search of the product graph finds, in the words of the model.
-use Rattle.std.proofs.Common.{◌≡◌, ℕ, ◌+◌, ◌*◌, ◌<◌, ◌≤◌, Bool, List, ◌++◌, length, drop, Ok, Err, Result, sym, ap, ◌∙◌, subst}
+use Rattle.std.proofs.Common.{◌≡◌, ℕ, ◌*◌, ◌<◌, ◌≤◌, Bool, List, ◌++◌, length, drop, Ok, Err, Result, sym, ap, ◌∙◌, subst}
 use Rattle.symbols.specs.Kinds.{KindLaws}
 use Rattle.faults.specs.declared.Layer.TheVariants.{Compare}
 use Rattle.faults.specs.declared.Fault.{Fault}

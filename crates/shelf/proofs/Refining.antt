@@ -20,7 +20,7 @@ use Rattle.shelf.specs.declared.shelves.Shelf.{Shelf}
 use Rattle.shelf.specs.Places.{State, room, front, placed, record_at, is_taken, has, Kept, HoldsAt, Holds, Cells, cells, cells_at, cells_of, table_from, table_of}
 use Rattle.shelf.specs.Calls.{Done, Judges, LoadEnds, TrialEnds, TakesJust, states_of, withdraw_ends, after_load, after_withdraw, Others, Unchanged, WithdrawWrites, Withdraws, Put, LoadWrites, Loads, TriesAt, Tries, Refines}
 use Rattle.shelf.proofs.Cells.{length_placed, front_placed, front_other, made_placed}
-use Rattle.shelf.proofs.Reading.{even, takes_word, word_takes}
+use Rattle.shelf.proofs.Reading.{takes_word, word_takes}
 
 pub room_cells : (a b p : ℕ) → room a b p ≡ true → (p * 64 + 64 ≤ a) × (p * 64 + 64 ≤ b)
 room_cells a b p e = (search rules, search rules)

@@ -1,14 +1,13 @@
 -- One call on a desk, by a list of one call. Assumes nothing.
-use Rattle.std.proofs.Common.{◌≡◌, ℕ, zero, suc, ◌+◌, ◌*◌, ◌<◌, ◌≤◌, Bool, true, false, cond, eqb, leb, ◌⊎◌, List, [], ◌∷◌, ◌++◌, length, get_or, take, is_some, Some, None, Ok, Err, Option, sym, refl, ap, ◌∙◌, subst, inl, inr, arith}
+use Rattle.std.proofs.Common.{◌≡◌, ℕ, ◌+◌, ◌*◌, ◌<◌, Bool, true, false, cond, eqb, List, [], ◌∷◌, ◌++◌, length, get_or, take, is_some, Some, Ok, Err, sym, refl, ap, ◌∙◌, subst, inl, inr, arith}
 use Rattle.std.specs.List.{slice_get}
 use Rattle.std.proofs.lemmas.Option.{slice_get_past, slice_get-get_or}
 use Rattle.std.proofs.lemmas.List.{length_push, get_or_push, get_or_append_left}
 use Rattle.std.proofs.lemmas.Bool.{cases_order, eq-eqb, ne_eqb, lt-ltb, le-leb, and_from, cond-true, cond-false}
-use Rattle.faults.specs.declared.Fault.{Fault}
 use Rattle.symbols.specs.NameRows.{name_same}
 use Rattle.symbols.specs.declared.name_rows.NameRow.{NameRow}
 use Rattle.language.specs.Meaning.{Model}
-use Rattle.shelf.specs.Places.{room, has, Holds}
+use Rattle.shelf.specs.Places.{has, Holds}
 use Rattle.shelf.specs.Calls.{Done, Judges, LoadEnds}
 use Rattle.comparison.specs.declared.calls.Answer.{Answer}
 use Rattle.comparison.specs.declared.calls.Answer.TheVariants as answer

@@ -1,5 +1,5 @@
 -- A comparison of two places of a desk. Assumes nothing.
-use Rattle.std.proofs.Common.{◌≡◌, ℕ, ◌+◌, ◌*◌, ◌<◌, ◌≤◌, Bool, true, false, cond, eqb, List, [], ◌∷◌, ◌++◌, length, take, drop, Some, None, Option, Result, sym, refl, ap, ◌∙◌, subst, mul-le-mul, arith}
+use Rattle.std.proofs.Common.{◌≡◌, ℕ, ◌+◌, ◌≤◌, Bool, true, false, cond, eqb, List, length, drop, Some, Option, Result, sym, refl, ◌∙◌, subst, mul-le-mul, arith}
 use Rattle.std.specs.List.{slice_get}
 use Rattle.std.proofs.lemmas.List.{take_at}
 use Rattle.faults.specs.declared.Fault.{Fault}
@@ -14,9 +14,8 @@ use Rattle.shelf.specs.declared.records.Record.TheVariants.{Empty, Taken}
 use Rattle.shelf.specs.Places.{room, has, Holds, HoldsAt}
 use Rattle.shelf.specs.Calls.{TakesJust, states_of}
 use Rattle.comparison.specs.declared.calls.Answer.{Answer}
-use Rattle.comparison.specs.declared.calls.Answer.TheVariants as answer
 use Rattle.comparison.specs.Compares.{CompareEnds}
-use Rattle.comparison.specs.Runs.{compares, answer_of_compare, step}
+use Rattle.comparison.specs.Runs.{compares, answer_of_compare}
 use Rattle.book.specs.declared.lines.Verdict.{Verdict}
 use Rattle.book.specs.declared.lines.Verdict.TheVariants as verdict
 use Rattle.verdicts.proofs.Compared.{taken_included, astray_missed}

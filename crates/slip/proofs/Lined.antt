@@ -1,14 +1,13 @@
 -- The line of two places of a desk. Assumes nothing.
-use Rattle.std.proofs.Common.{◌≡◌, ℕ, ◌-◌, ◌<◌, ◌≤◌, true, cond, List, ◌++◌, length, take, is_ok, IfOk, Some, Ok, Err, Result, sym, refl, ap, ◌∙◌, subst, arith}
+use Rattle.std.proofs.Common.{◌≡◌, ℕ, ◌-◌, ◌<◌, ◌≤◌, cond, List, ◌++◌, length, take, is_ok, IfOk, Some, Ok, Err, Result, sym, ap, ◌∙◌, subst, arith}
 use Rattle.std.specs.List.{slice_get}
 use Rattle.std.proofs.lemmas.Bool.{and_parts, ltb-true}
-use Rattle.std.proofs.lemmas.List.{length-take}
 use Rattle.symbols.specs.NameRows.{row_bytes}
 use Rattle.symbols.specs.declared.name_rows.NameRow.{NameRow}
 use Rattle.language.specs.Meaning.{Model, spelled}
 use Rattle.models.specs.declared.tables.Sets.{Sets}
 use Rattle.shelf.specs.Places.{cells, cells_of}
-use Rattle.book.specs.Line.{symbols_shown, line_of, Places}
+use Rattle.book.specs.Line.{symbols_shown, line_of}
 use Rattle.book.specs.declared.lines.Verdict.{Verdict}
 use Rattle.book.proofs.Shown.{shown_most}
 use Rattle.slip.specs.declared.desks.Desk.{Desk}

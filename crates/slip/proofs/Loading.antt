@@ -1,5 +1,5 @@
 -- What is loaded of a text. Assumes nothing.
-use Rattle.std.proofs.Common.{◌≡◌, ℕ, ◌-◌, ◌≤◌, List, ◌++◌, map, length, take, drop, Ok, Err, sym, refl, ap, ◌∙◌, subst, arith}
+use Rattle.std.proofs.Common.{◌≡◌, ℕ, ◌-◌, ◌≤◌, List, map, length, take, drop, Ok, Err, sym, ap, ◌∙◌, subst, arith}
 use Rattle.std.proofs.lemmas.List.{take_at, length-append, length-map}
 use Rattle.faults.specs.declared.Fault.{Fault}
 use Rattle.symbols.specs.NameRows.{name_row, name_same}
@@ -7,9 +7,9 @@ use Rattle.symbols.specs.declared.name_rows.NameRow.{NameRow}
 use Rattle.codes.proofs.Answered.{not_refused}
 use Rattle.language.specs.Meaning.{Model, given}
 use Rattle.models.specs.Told as told
-use Rattle.shelf.specs.Calls.{Done, Judges}
+use Rattle.shelf.specs.Calls.{Done}
 use Rattle.text_reader.specs.declared.Counts.{Counts}
-use Rattle.text_reader.specs.Answer.{Answer, Taken}
+use Rattle.text_reader.specs.Answer.{Answer}
 use Rattle.verdicts.specs.Texts.{TextOf, Faulty, unread, ambiguous}
 use Rattle.verdicts.proofs.Formed.{texts_are_formed}
 use Rattle.verdicts.proofs.Meanings.{refused_unread}

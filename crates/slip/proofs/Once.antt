@@ -1,22 +1,20 @@
 -- The same is printed for the same bytes. Assumes nothing.
-use Rattle.std.proofs.Common.{◌≡◌, ℕ, zero, suc, ◌+◌, ◌<◌, Bool, List, [], ◌∷◌, ◌++◌, length, get_or, sym, refl, ap, ◌∙◌, subst, inl, inr, arith}
+use Rattle.std.proofs.Common.{◌≡◌, ℕ, zero, suc, ◌<◌, List, [], ◌∷◌, ◌++◌, length, get_or, sym, refl, ap, ◌∙◌, subst, inl, inr, arith}
 use Rattle.std.proofs.lemmas.Bool.{cases_order}
 use Rattle.faults.specs.declared.Fault.{Fault}
 use Rattle.symbols.specs.NameRows.{row_bytes, name_same, name_laws}
 use Rattle.symbols.specs.declared.name_rows.NameRow.{NameRow}
 use Rattle.language.specs.Meaning.{Model, Formed, spelled}
 use Rattle.book.specs.Books.{IsBook}
-use Rattle.book.specs.Entries.{bodies_in}
 use Rattle.book.specs.Line.{line_of}
 use Rattle.book.specs.declared.lines.Verdict.{Verdict}
 use Rattle.book.specs.declared.lines.Verdict.TheVariants as verdict
 use Rattle.book.proofs.Theorems.{refusals_stand, one_fault, bodies_stand}
 use Rattle.verdicts.specs.Texts.{Gives, Faulty}
-use Rattle.verdicts.specs.Verdicts.{Included, LeastMissed}
 use Rattle.verdicts.proofs.Formed.{texts_are_formed}
 use Rattle.verdicts.proofs.Meanings.{one_meaning}
 use Rattle.verdicts.proofs.Compared.{one_verdict}
-use Rattle.slip.specs.Printed.{AllGive, none, more, FirstFaulty, Judged, included, not_included, Lines, one, next, line_of_book, line_of_body, Printed, no_book, no_model, compared}
+use Rattle.slip.specs.Printed.{AllGive, none, more, FirstFaulty, Judged, included, not_included, Lines, one, next, line_of_book, line_of_body, no_book, no_model, compared}
 use Rattle.slip.specs.Theorems.{OneSlip}
 
 -- each body gives a model

@@ -1,7 +1,6 @@
 -- What a desk has, and what its calls answer. Assumes nothing.
-use Rattle.std.specs.Prelude.{◌≡◌, ℕ, ◌<◌, ◌≤◌, List, [], ◌∷◌, ◌++◌, length, take, Some, Ok, Err, Result, slice_index}
+use Rattle.std.specs.Prelude.{◌≡◌, ℕ, ◌<◌, ◌≤◌, List, [], ◌∷◌, ◌++◌, length, take, Some, Ok, Err, slice_index}
 use Rattle.std.specs.List.{slice_get}
-use Rattle.faults.specs.declared.Fault.{Fault}
 use Rattle.symbols.specs.NameRows.{name_same, row_bytes}
 use Rattle.symbols.specs.declared.name_rows.NameRow.{NameRow}
 use Rattle.language.specs.Meaning.{Model}

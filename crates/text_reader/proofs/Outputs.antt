@@ -1,10 +1,9 @@
 -- How the output grows. Assumes nothing.
-use Rattle.std.proofs.Common.{◌≡◌, ℕ, ◌+◌, ◌<◌, ◌≤◌, ◌⊎◌, List, [], ◌∷◌, ◌++◌, map, length, take, set, codes, sym, ap, ◌∙◌, subst, ⊎_elim, append_assoc, append-nil, arith, length-append}
+use Rattle.std.proofs.Common.{◌≡◌, ℕ, ◌+◌, ◌<◌, ◌≤◌, List, [], ◌∷◌, ◌++◌, map, length, take, set, sym, ap, ◌∙◌, subst, ⊎_elim, append_assoc, append-nil, arith, length-append}
 use Rattle.std.proofs.lemmas.List.{take_more_set, map_push, take_all, take-append-le, length-take-le}
 use Rattle.std.proofs.str.Laws.{order}
 use Rattle.symbols.specs.NameRows.{name_row}
 use Rattle.symbols.specs.declared.name_rows.NameRow.{NameRow}
-use Rattle.grammar.specs.Reads.{named}
 use Rattle.text_reader.specs.declared.output.Output.{Output}
 use Rattle.text_reader.specs.Output.{Holds, Grew}
 

@@ -1,20 +1,19 @@
 -- The writer has one answer. Assumes nothing.
-use Rattle.std.proofs.Common.{◌≡◌, ℕ, zero, suc, ◌<◌, ◌≤◌, ◌⊎◌, List, [], ◌∷◌, ◌++◌, map, length, get_or, take, drop, Ok, Err, Result, sym, refl, ap, ◌∙◌, subst, inl, inr, arith}
+use Rattle.std.proofs.Common.{◌≡◌, ℕ, ◌<◌, ◌≤◌, List, [], ◌∷◌, ◌++◌, map, length, get_or, take, drop, Ok, Err, sym, ap, ◌∙◌, subst, inl, inr, arith}
 use Rattle.std.proofs.lemmas.Bool.{cases_lt}
 use Rattle.faults.specs.declared.Fault.{Fault}
 use Rattle.faults.specs.declared.Fault.TheVariants.{TooDeep, ShortList, Unwritable}
 use Rattle.faults.specs.declared.Layer.TheVariants.{Text}
 use Rattle.symbols.specs.Rule.{IsName}
 use Rattle.symbols.specs.NameRows.{row_bytes}
-use Rattle.symbols.specs.declared.name_rows.NameRow.{NameRow}
-use Rattle.codes.specs.Tree.{Tree, empty, leaf, then, either, maybe, many, some, postfix, leaves}
+use Rattle.codes.specs.Tree.{Tree, empty, leaf, then, either, maybe, many, some, postfix}
 use Rattle.codes.specs.Checked as checked
 use Rattle.codes.proofs.Answered.{one_refusal, not_refused}
 use Rattle.codes.proofs.Shapes.{same_tree}
 use Rattle.grammar.specs.Trees.{Solid, Plain}
 use Rattle.text_writer.specs.Written.{written}
 use Rattle.text_writer.specs.Levels.{level, Shallow, FirstDeep}
-use Rattle.text_writer.specs.Writes.{FirstEmpty, NoneEmpty, FirstNoName, AllNames, Sayable, Refused, ill_formed, empty_part, no_name, too_deep, no_room, Wrote, Writes, OneAnswer}
+use Rattle.text_writer.specs.Writes.{FirstEmpty, NoneEmpty, FirstNoName, AllNames, Sayable, Refused, ill_formed, empty_part, no_name, too_deep, no_room, Wrote, OneAnswer}
 use Rattle.text_writer.proofs.Trees.{Each, each_both, each_at, Nonzero}
 
 -- the least of its kind is one

@@ -1,9 +1,7 @@
 -- From the checks and the draft to the writer's answer. Assumes nothing.
-use Rattle.std.proofs.Common.{◌≡◌, ℕ, ◌+◌, ◌-◌, ◌*◌, ◌<◌, ◌≤◌, Bool, true, false, not, ◌&&◌, eqb, leb, ◌⊎◌, List, [], ◌∷◌, ◌++◌, map, length, get_or, take, drop, Ok, Err, Result, sym, refl, ap, ◌∙◌, subst, inl, inr, append_assoc, append-nil, arith, length-append}
-use Rattle.std.proofs.lemmas.List.{take_all, length-map}
+use Rattle.std.proofs.Common.{◌≡◌, ℕ, ◌+◌, ◌≤◌, Bool, true, false, not, ◌&&◌, eqb, leb, List, [], ◌∷◌, ◌++◌, map, length, get_or, drop, Ok, Err, Result, sym, refl, ap, ◌∙◌, subst, inl, inr, append_assoc, append-nil, arith}
+use Rattle.std.proofs.lemmas.List.{take_all}
 use Rattle.faults.specs.declared.Fault.{Fault}
-use Rattle.faults.specs.declared.Fault.TheVariants.{ShortList}
-use Rattle.faults.specs.declared.Layer.TheVariants.{Text}
 use Rattle.symbols.specs.NameRows.{row_bytes}
 use Rattle.symbols.specs.declared.name_rows.NameRow.{NameRow}
 use Rattle.codes.specs.Tree.{Tree, empty, leaf, then, either, maybe, many, some, postfix, leaves}
@@ -15,8 +13,8 @@ use Rattle.text_writer.specs.declared.parts.Left.{Left}
 use Rattle.text_writer.specs.declared.place.Place.TheVariants.{Alone}
 use Rattle.text_writer.specs.Written.{grouped, text, written}
 use Rattle.text_writer.specs.Levels.{Shallow}
-use Rattle.text_writer.specs.Drafts.{content, Room, Grown, Put, ended, Before, Said, SaidTree}
-use Rattle.text_writer.specs.Writes.{NoneEmpty, AllNames, Sayable, Refused, no_room, Wrote, Writes, Copied}
+use Rattle.text_writer.specs.Drafts.{content, Room, Grown, Put, ended, Before, SaidTree}
+use Rattle.text_writer.specs.Writes.{NoneEmpty, AllNames, Sayable, Refused, no_room, Writes, Copied}
 use Rattle.text_writer.proofs.Nest.{Named}
 use Rattle.text_writer.proofs.Round.{round_trip, empty_reads}
 use Rattle.text_writer.proofs.Wrapped.{wrapped, shallow_nest, text_length, grouped_length}

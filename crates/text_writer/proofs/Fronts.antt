@@ -1,5 +1,5 @@
 -- What a list has from a place on, once something was written there. Assumes nothing.
-use Rattle.std.proofs.Common.{◌≡◌, ℕ, suc, ◌+◌, ◌-◌, ◌<◌, ◌≤◌, min, List, [], ◌∷◌, ◌++◌, length, take, drop, set, sym, refl, ap, ◌∙◌, inl, inr, arith}
+use Rattle.std.proofs.Common.{◌≡◌, ℕ, suc, ◌-◌, ◌<◌, ◌≤◌, min, List, ◌∷◌, ◌++◌, length, take, drop, set, sym, ap, ◌∙◌, inl, inr, arith}
 use borrow.Rule.Slice.PartMut.{put_mid, mid_of, post_of, Post-is}
 use Rattle.std.proofs.lemmas.List.{length-take-le, drop_at, set_split, take_all, length-drop, drop_all}
 use Rattle.std.proofs.lemmas.Bool.{cases_lt}

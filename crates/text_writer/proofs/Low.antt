@@ -1,13 +1,13 @@
 -- A text whose brackets never open a seventeenth level is written for a tree of at most sixteen levels. Assumes nothing.
-use Rattle.std.proofs.Common.{◌≡◌, ℕ, zero, suc, ◌+◌, ◌-◌, ◌<◌, ◌≤◌, max, Bool, true, false, cond, ◌||◌, eqb, List, [], ◌∷◌, ◌++◌, length, get_or, take, sym, refl, ap, ◌∙◌, subst, append_assoc, arith}
+use Rattle.std.proofs.Common.{◌≡◌, ℕ, suc, ◌+◌, ◌-◌, ◌<◌, ◌≤◌, max, Bool, true, false, cond, eqb, List, [], ◌∷◌, ◌++◌, length, get_or, take, sym, refl, ap, ◌∙◌, subst, append_assoc, arith}
 use Rattle.std.proofs.lemmas.List.{take_more}
 use Rattle.std.proofs.lemmas.Bool.{ne_eqb, eqb-true}
-use Rattle.symbols.specs.Rule.{start, only, inner, allowed, IsName}
+use Rattle.symbols.specs.Rule.{inner, IsName}
 use Rattle.codes.specs.Tree.{Tree, empty, leaf, then, either, maybe, many, some}
 use Rattle.text_writer.specs.declared.place.Place.{Place}
 use Rattle.text_writer.specs.declared.place.Place.TheVariants.{Alone, Commas, Bars, Marked}
-use Rattle.text_writer.specs.Levels.{passed, level, Shallow}
-use Rattle.text_writer.specs.Written.{grouped, then_opens, either_opens, mark_opens, with_sign, text, bracketed, written}
+use Rattle.text_writer.specs.Levels.{passed, level}
+use Rattle.text_writer.specs.Written.{grouped, then_opens, either_opens, mark_opens, with_sign, text}
 use Rattle.text_writer.proofs.Nest.{deeper, nest, Named}
 use Rattle.text_writer.proofs.Names.{inner_at}
 

@@ -1,9 +1,9 @@
 -- What is written reads back. Assumes nothing.
-use Rattle.std.proofs.Common.{◌≡◌, ℕ, suc, ◌+◌, ◌-◌, ◌<◌, ◌≤◌, max, Bool, true, false, cond, eqb, ◌⊎◌, List, [], ◌∷◌, ◌++◌, length, get_or, take, drop, codes, sym, refl, ap, ◌∙◌, subst, inl, inr, append_assoc, append-nil, arith, length-append}
+use Rattle.std.proofs.Common.{◌≡◌, ℕ, suc, ◌+◌, ◌-◌, ◌<◌, ◌≤◌, max, Bool, true, cond, ◌⊎◌, List, [], ◌∷◌, ◌++◌, length, get_or, take, codes, sym, refl, ap, ◌∙◌, subst, inl, inr, append_assoc, append-nil, arith, length-append}
 use native.Mathlib.Nat.{le-max_left, le-max_right}
 use Rattle.std.proofs.lemmas.List.{get_or_at, take_at, drop_at}
 use Rattle.std.proofs.lemmas.Bool.{ne_eqb}
-use Rattle.symbols.specs.Rule.{start, inner, allowed, IsName}
+use Rattle.symbols.specs.Rule.{start, inner, IsName}
 use Rattle.tokens.specs.Bytes.{white}
 use Rattle.tokens.specs.Tokens.{While, stop, on, slice}
 use Rattle.grammar.specs.declared.Chain.TheVariants.{Choice, Seq}
@@ -12,7 +12,7 @@ use Rattle.grammar.specs.Grammar.{Name, MarkOf, is_query, is_star, is_plus, Mark
 use Rattle.codes.specs.Tree.{Tree, empty, leaf, then, either, maybe, many, some, postfix, leaves}
 use Rattle.text_writer.specs.declared.place.Place.{Place}
 use Rattle.text_writer.specs.declared.place.Place.TheVariants.{Alone, Commas, Bars, Marked}
-use Rattle.text_writer.specs.Written.{grouped, then_opens, either_opens, mark_opens, with_sign, text, bracketed, written}
+use Rattle.text_writer.specs.Written.{grouped, mark_opens, with_sign, text, bracketed, written}
 use Rattle.text_writer.proofs.Names.{later_allowed}
 use Rattle.text_writer.proofs.Nest.{deeper, nest, Named}
 

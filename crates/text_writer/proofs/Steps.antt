@@ -1,5 +1,5 @@
 -- One step of the writer, from the last part to the first. Assumes nothing.
-use Rattle.std.proofs.Common.{◌≡◌, ℕ, ◌+◌, ◌-◌, ◌<◌, ◌≤◌, Bool, true, false, ◌⊎◌, List, [], ◌∷◌, ◌++◌, length, get_or, take, drop, codes, sym, refl, ap, ◌∙◌, subst, inl, inr, append_assoc, append-nil, arith, length-append}
+use Rattle.std.proofs.Common.{◌≡◌, ℕ, ◌-◌, ◌<◌, ◌≤◌, Bool, true, false, ◌⊎◌, List, [], ◌∷◌, ◌++◌, length, get_or, take, codes, sym, refl, ap, ◌∙◌, subst, inl, inr, append_assoc, append-nil, arith, length-append}
 use Rattle.std.proofs.lemmas.List.{length-take, take-take, take_at, get_or_at, get_or-take}
 use Rattle.codes.specs.Tree.{Tree, empty, leaf, then, either, maybe, many, some, postfix, leaves}
 use Rattle.grammar.specs.Grammar.{sign}
@@ -7,7 +7,7 @@ use Rattle.grammar.specs.declared.Chain.{Chain}
 use Rattle.text_writer.specs.declared.draft.Draft.{Draft}
 use Rattle.text_writer.specs.declared.parts.Left.{Left}
 use Rattle.text_writer.specs.declared.place.Place.{Place}
-use Rattle.text_writer.specs.declared.place.Place.TheVariants.{Alone, Commas, Bars, Marked}
+use Rattle.text_writer.specs.declared.place.Place.TheVariants.{Alone, Marked}
 use Rattle.text_writer.specs.Written.{grouped, mark_opens, with_sign, text}
 use Rattle.text_writer.specs.Drafts.{content, Room, Grown, Put, ended, Before, Said, SaidTree, chain_opens, first_of, chain_text}
 

@@ -1,6 +1,6 @@
 -- Which texts are bracketed as a whole, and how long a text is. Assumes nothing.
-use Rattle.std.proofs.Common.{◌≡◌, ℕ, ◌+◌, ◌*◌, ◌<◌, ◌≤◌, Bool, true, false, leb, List, [], ◌∷◌, ◌++◌, length, sym, refl, ap, ◌∙◌, subst, append-nil, arith, length-append}
-use Rattle.std.proofs.lemmas.Bool.{le-leb, lt-leb}
+use Rattle.std.proofs.Common.{◌≡◌, ℕ, ◌+◌, ◌*◌, ◌<◌, ◌≤◌, Bool, true, false, leb, List, [], ◌∷◌, ◌++◌, length, sym, ap, subst, append-nil, arith, length-append}
+use Rattle.std.proofs.lemmas.Bool.{lt-leb}
 use Rattle.symbols.specs.Rule.{IsName}
 use Rattle.codes.specs.Tree.{Tree, empty, leaf, then, either, maybe, many, some, postfix, leaves}
 use Rattle.text_writer.specs.declared.place.Place.{Place}

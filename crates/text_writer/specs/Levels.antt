@@ -1,5 +1,5 @@
 -- The levels of brackets in a text. Assumes nothing.
-use Rattle.std.specs.Prelude.{◌≡◌, ℕ, ◌+◌, ◌-◌, ◌<◌, ◌≤◌, cond, List, [], ◌∷◌, length, take, ◌==◌, slice_index, slice_index_or}
+use Rattle.std.specs.Prelude.{◌≡◌, ℕ, ◌+◌, ◌-◌, ◌<◌, ◌≤◌, cond, List, [], ◌∷◌, take, ◌==◌, slice_index, slice_index_or}
 
 -- how many brackets are open behind a byte, where d are open before it
 abbrev pub passed : ℕ → ℕ → ℕ

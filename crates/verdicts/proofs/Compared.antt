@@ -1,5 +1,5 @@
 -- From a reader that takes just the words of a model to the verdict on two models. Assumes nothing.
-use Rattle.std.proofs.Common.{◌≡◌, ℕ, Bool, ◌↔◌, List}
+use Rattle.std.proofs.Common.{ℕ, Bool, ◌↔◌, List}
 use Rattle.symbols.specs.Kinds.{KindLaws}
 use Rattle.language.specs.Words.{Marked}
 use Rattle.language.specs.Meaning.{Model, body, Formed, spelled, Word}

@@ -7,7 +7,6 @@ use Rattle.symbols.specs.NameRows.{name_row}
 use Rattle.language.specs.Meaning.{Formed}
 use Rattle.grammar.proofs.Room.{room}
 use Rattle.grammar.proofs.Built.{built}
-use Rattle.verdicts.specs.Texts.{TextOf}
 use Rattle.verdicts.specs.Theorems.{TextsAreFormed}
 
 above_append : (a k j : ℕ) → above a k ++ above (a + k) j ≡ above a (k + j)

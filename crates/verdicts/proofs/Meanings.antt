@@ -1,5 +1,5 @@
 -- A text has one meaning. Assumes nothing.
-use Rattle.std.proofs.Common.{◌≡◌, ℕ, ◌≤◌, true, false, List, [], map, length, replicate, Ok, Err, Result, sym, refl, ap, ◌∙◌, subst, arith}
+use Rattle.std.proofs.Common.{◌≡◌, ℕ, ◌≤◌, List, [], map, length, replicate, Err, sym, refl, ap, ◌∙◌, subst, arith}
 use Rattle.std.proofs.lemmas.List.{length-replicate}
 use Rattle.std.proofs.lemmas.Bool.{false≢true}
 use Rattle.faults.specs.declared.Fault.{Fault}
@@ -8,10 +8,8 @@ use Rattle.symbols.specs.NameRows.{name_row, name_same}
 use Rattle.symbols.specs.declared.name_rows.NameRow.{NameRow}
 use Rattle.language.specs.Meaning.{Model, given, LeastCompeting}
 use Rattle.grammar.proofs.Unique.{one_reading}
-use Rattle.text_reader.specs.declared.Counts.{Counts}
-use Rattle.text_reader.specs.Answer.{Refused, Fits, Readable, few_codes, few_names, long_text, at_strange_byte, at_unexpected, at_long_name, at_too_deep, at_too_many}
+use Rattle.text_reader.specs.Answer.{Refused, Readable, few_codes, few_names, long_text, at_strange_byte, at_unexpected, at_long_name, at_too_deep, at_too_many}
 use Rattle.text_reader.proofs.Final.{exact, one_answer}
-use Rattle.models.specs.declared.tables.Sets.{Sets}
 use Rattle.models.specs.Told as told
 use Rattle.models.proofs.Answered as models
 use Rattle.verdicts.specs.Texts.{TextOf, Gives, Unread, Faulty, unread, ambiguous}

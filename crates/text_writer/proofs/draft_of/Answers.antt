@@ -1,4 +1,4 @@
-use Rattle.std.proofs.Common.{map, sym, refl, arith}
+use Rattle.std.proofs.Common.{map, sym, refl}
 use Rattle.std.proofs.lemmas.List.{length-map}
 use Rattle.symbols.specs.NameRows.{row_bytes}
 use Rattle.text_writer.proofs.Final.{drafted}

@@ -1,10 +1,10 @@
-use Rattle.std.proofs.Common.{◌≡◌, ℕ, List, map, length, sym, refl, ap, ◌∙◌, subst}
+use Rattle.std.proofs.Common.{ℕ, List, map, sym, refl, ◌∙◌, subst}
 use Rattle.std.proofs.lemmas.List.{length-map}
 use Rattle.std.proofs.lemmas.Result.{err_from_is_err_and}
 use Rattle.symbols.specs.NameRows.{row_bytes}
 use Rattle.codes.specs.Checked as checked
-use Rattle.text_writer.specs.Levels.{Shallow, FirstDeep}
-use Rattle.text_writer.specs.Writes.{Refused, ill_formed, empty_part, no_name, too_deep}
+use Rattle.text_writer.specs.Levels.{FirstDeep}
+use Rattle.text_writer.specs.Writes.{ill_formed, empty_part, no_name, too_deep}
 use Rattle.text_writer.proofs.Final.{sayable_of, finished, refused_as}
 use Rattle.text_writer.proofs.write.Goals as goal
 

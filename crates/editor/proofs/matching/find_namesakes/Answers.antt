@@ -1,4 +1,4 @@
-use Rattle.std.proofs.Common.{◌+◌, sym, ◌∙◌, subst, arith}
+use Rattle.std.proofs.Common.{◌+◌, sym, subst, arith}
 use Rattle.editor.proofs.Marking.{MarkedTo, none_yet, passed, found}
 use Rattle.editor.proofs.matching.find_namesakes.Goals as goal
 use Rattle.editor.proofs.matching.find_namesakes.Goals.{then-same, else-same}

@@ -1,4 +1,4 @@
-use Rattle.std.proofs.Common.{◌<◌, ◌≤◌, min, length, get_or, sym, inl, inr, ⊎_elim, arith}
+use Rattle.std.proofs.Common.{min, sym, inl, inr, ⊎_elim, arith}
 use Rattle.editor.proofs.Matched.{no_row}
 use Rattle.editor.proofs.matching.next_positions.Goals as goal
 

@@ -1,9 +1,9 @@
-use Rattle.std.proofs.Common.{◌≤◌, length, arith, rules}
+use Rattle.std.proofs.Common.{◌≤◌, arith, rules}
 use native.Mathlib.Nat.{sub-zero}
 use Rattle.std.proofs.lemmas.Result.{err_from_is_err_and}
 use Rattle.verdicts.specs.Texts.{unread}
 use Rattle.verdicts.proofs.Meanings.{refused_unread}
-use Rattle.editor.proofs.Kept.{read_text, read_few, read_short, kept, flawed_faulty}
+use Rattle.editor.proofs.Kept.{read_text, read_short, kept, flawed_faulty}
 use Rattle.editor.proofs.studying.study_text.Goals as goal
 
 pub returns-in_err-counts : goal.returns-in_err-counts

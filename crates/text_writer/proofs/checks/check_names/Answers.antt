@@ -1,4 +1,4 @@
-use Rattle.std.proofs.Common.{◌≡◌, ℕ, ◌<◌, List, [], map, length, get_or, sym, refl, ap, subst, arith, below_more}
+use Rattle.std.proofs.Common.{ℕ, ◌<◌, List, [], map, length, get_or, sym, refl, subst, arith, below_more}
 use Rattle.std.proofs.lemmas.List.{get_or-map, length-map}
 use Rattle.std.proofs.lemmas.Bool.Decides.{not_from_Decides}
 use Rattle.symbols.specs.Rule.{IsName}

@@ -1,4 +1,4 @@
-use Rattle.std.proofs.Common.{◌-◌, ◌<◌, map, get_or, inl, inr, arith, rules}
+use Rattle.std.proofs.Common.{◌-◌, ◌<◌, map, get_or, inl, inr, arith}
 use Rattle.symbols.specs.NameRows.{row_bytes}
 use Rattle.text_writer.proofs.Steps.{chain_said, marked_said, no_part_said, empty_said, arm_leaf, arm_then, arm_either, arm_maybe, arm_many, arm_some, arm_other}
 use Rattle.text_writer.proofs.parts.+write_chain_write_marked_write_part.Goals as goal

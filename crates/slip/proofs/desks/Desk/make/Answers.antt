@@ -1,4 +1,4 @@
-use Rattle.std.proofs.Common.{◌≡◌, true, leb, [], ◌∷◌, map, length, refl, ap, ◌∙◌, arith}
+use Rattle.std.proofs.Common.{◌≡◌, true, leb, map, length, ap, ◌∙◌, arith}
 use Rattle.comparison.specs.Runs.{request}
 use Rattle.slip.proofs.Calling.{called}
 use Rattle.slip.proofs.desks.Desk.make.Goals as goal

@@ -1,4 +1,4 @@
-use Rattle.std.proofs.Common.{◌≡◌, ◌<◌, ◌≤◌, length, arith, rules}
+use Rattle.std.proofs.Common.{◌≡◌, length, arith, rules}
 use Rattle.text_writer.proofs.Fronts.{drop-set}
 use Rattle.text_writer.proofs.draft.Draft.push.Goals as goal
 

@@ -1,4 +1,4 @@
-use Rattle.std.proofs.Common.{◌≡◌, ℕ, ◌-◌, min, length, sym, ap, ◌∙◌, arith, rules}
+use Rattle.std.proofs.Common.{◌≡◌, length, rules}
 use Rattle.text_writer.proofs.Fronts.{rest_from}
 use Rattle.text_writer.proofs.draft.Draft.text.Goals as goal
 
