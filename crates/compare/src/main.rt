@@ -1,10 +1,10 @@
 // Tells of each model of a book whether it is included in the next one.
 #![tactic(auto)]
 
-use anyhow::anyhow;
 use slip::slip_of;
 use std::env;
 use std::io::{Read, Write};
+use std::process::ExitCode;
 
 const USAGE: &str =
     "usage: compare < BOOK   tells of each model of a book whether it is included in the next one";
@@ -18,14 +18,14 @@ fn run(rt: &HostRuntime) -> anyhow::Result<bool> {
     Ok(slip.whole)
 }
 
-fn main(rt: HostRuntime) -> anyhow::Result<()> {
+fn main(rt: HostRuntime) -> anyhow::Result<ExitCode> {
     if env::args(&rt)?.count() > 1 {
         println!(rt; "{USAGE}")?;
-        return Err(anyhow!("no argument is taken"));
+        return Ok(ExitCode::FAILURE);
     }
     if run(&rt)? {
-        Ok(())
+        Ok(ExitCode::SUCCESS)
     } else {
-        Err(anyhow!("a fault was found"))
+        Ok(ExitCode::FAILURE)
     }
 }

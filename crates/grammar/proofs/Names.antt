@@ -1,6 +1,6 @@
 -- Each name of a model within 32 bytes is a name. Assumes nothing.
 use Rattle.std.proofs.Common.{◌≡◌, ℕ, ◌+◌, ◌-◌, ◌<◌, ◌≤◌, Bool, true, List, length, get_or, drop, refl, ap, ◌∙◌, subst, ⊎_elim, arith, length-drop, length-take-le}
-use Rattle.std.specs.List.{AllByRecursion as All}
+use Rattle.std.specs.List.{AllByRecursion}
 use Rattle.std.proofs.ByRecursion.{All-append}
 use Rattle.std.proofs.lemmas.List.{get_or-take, get_or-drop}
 use Rattle.std.proofs.lemmas.Bool.Decides.{nat_tests}
@@ -38,7 +38,7 @@ is_name t i k nm =
           (order 0 m),
     )
 
-names_is : {t : List ℕ} {s : Sym} {d i j : ℕ} {w : List ℕ} {ns : List (List ℕ)} → Is t 32 s d i j w ns → All IsName ns
+names_is : {t : List ℕ} {s : Sym} {d i j : ℕ} {w : List ℕ} {ns : List (List ℕ)} → Is t 32 s d i j w ns → AllByRecursion IsName ns
 names_is {t} (cp_name {i = i} {k = k} nm m) = (is_name t i k nm, tt)
 names_is (cp_choice r m) = names_is r
 names_is (cp_seq r m) = names_is r
@@ -47,20 +47,20 @@ names_is (is_seq {ns = ns} {ms = ms} br de a p q) = All-append IsName ns ms (nam
 names_is (rest_done a h) = tt
 names_is (rest_next {ns = ns} {ms = ms} a h u p q) = All-append IsName ns ms (names_is p) (names_is q)
 
-names_listed : {t : List ℕ} {i j : ℕ} {v : List ℕ} {ms : List (List ℕ)} → Listed t 32 i j v ms → All IsName ms
+names_listed : {t : List ℕ} {i j : ℕ} {v : List ℕ} {ms : List (List ℕ)} → Listed t 32 i j v ms → AllByRecursion IsName ms
 names_listed (listed_done a h) = tt
 names_listed {t} (listed_next {b = b} {k = k} a h u nm q) = (is_name t b k nm, names_listed q)
 
-names_mixed : {t : List ℕ} {i j : ℕ} {w : List ℕ} {ns : List (List ℕ)} → Mixed t 32 i j w ns → All IsName ns
+names_mixed : {t : List ℕ} {i j : ℕ} {w : List ℕ} {ns : List (List ℕ)} → Mixed t 32 i j w ns → AllByRecursion IsName ns
 names_mixed (text_alone a b c d e) = tt
 names_mixed (text_star a b c d e f) = tt
 names_mixed {t} (text_names {x = x} {k = k} a b c d e f nm q h) = (is_name t x k nm, names_listed q)
 
-names_spec : {t : List ℕ} {d i j : ℕ} {w : List ℕ} {ns : List (List ℕ)} → ContentSpec t 32 d i j w ns → All IsName ns
+names_spec : {t : List ℕ} {d i j : ℕ} {w : List ℕ} {ns : List (List ℕ)} → ContentSpec t 32 d i j w ns → AllByRecursion IsName ns
 names_spec (empty e) = tt
 names_spec (mixed m) = names_mixed m
 names_spec (children_choice r m) = names_is r
 names_spec (children_seq r m) = names_is r
 
-pub names_are : {t : List ℕ} {d : ℕ} {w : List ℕ} {ns : List (List ℕ)} → Model t 32 d w ns → All IsName ns
+pub names_are : {t : List ℕ} {d : ℕ} {w : List ℕ} {ns : List (List ℕ)} → Model t 32 d w ns → AllByRecursion IsName ns
 names_are m = names_spec m.spec

@@ -1,6 +1,6 @@
 -- What holds of every text that is a model. Assumes nothing.
 use Rattle.std.specs.Prelude.{◌≡◌, ℕ, ◌≤◌, List, length}
-use Rattle.std.specs.List.{AllByRecursion as All}
+use Rattle.std.specs.List.{AllByRecursion}
 use Rattle.symbols.specs.Rule.{IsName}
 use Rattle.grammar.specs.Grammar.{Model}
 use Rattle.grammar.specs.Reads.{Outcome, Whole}
@@ -21,7 +21,7 @@ GivesTree = (t : List ℕ) (n d : ℕ) (w : List ℕ) (ns : List (List ℕ)) →
 
 -- where no name of a model has over 32 bytes, each is a name
 abbrev pub GivesNames : Type 0
-GivesNames = (t : List ℕ) (d : ℕ) (w : List ℕ) (ns : List (List ℕ)) → Model t 32 d w ns → All IsName ns
+GivesNames = (t : List ℕ) (d : ℕ) (w : List ℕ) (ns : List (List ℕ)) → Model t 32 d w ns → AllByRecursion IsName ns
 
 -- the rules of reading give a text at most one outcome
 abbrev pub OneOutcome : Type 0

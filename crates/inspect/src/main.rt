@@ -4,13 +4,13 @@
 mod explain;
 mod report;
 
-use anyhow::anyhow;
 use book::reading::Book;
 use explain::explain;
 use faults::Numbered;
 use report::Report;
 use std::env;
 use std::io::{Read, Write};
+use std::process::ExitCode;
 
 const USAGE: &str =
     "usage: inspect < BOOK   explains each model of a book that is read from standard input";
@@ -45,14 +45,14 @@ fn run(rt: &HostRuntime) -> anyhow::Result<bool> {
     Ok(whole)
 }
 
-fn main(rt: HostRuntime) -> anyhow::Result<()> {
+fn main(rt: HostRuntime) -> anyhow::Result<ExitCode> {
     if env::args(&rt)?.count() > 1 {
         println!(rt; "{USAGE}")?;
-        return Err(anyhow!("no argument is taken"));
+        return Ok(ExitCode::FAILURE);
     }
     if run(&rt)? {
-        Ok(())
+        Ok(ExitCode::SUCCESS)
     } else {
-        Err(anyhow!("a fault was found"))
+        Ok(ExitCode::FAILURE)
     }
 }

@@ -9,6 +9,7 @@ use book::making::make;
 use input::lines;
 use std::env;
 use std::io::{Read, Write};
+use std::process::ExitCode;
 
 const USAGE: &str =
     "usage: mkbook [TEXT]...   one text an argument, or without arguments one to a line on standard input";
@@ -51,10 +52,12 @@ fn run(rt: &HostRuntime) -> anyhow::Result<()> {
     write_book(rt, texts.as_slice())
 }
 
-fn main(rt: HostRuntime) -> anyhow::Result<()> {
-    let done = run(&rt);
-    if let Err(error) = &done {
-        eprintln!(rt; "mkbook: {error}")?;
+fn main(rt: HostRuntime) -> ExitCode {
+    match run(&rt) {
+        Ok(()) => ExitCode::SUCCESS,
+        Err(error) => {
+            let _ = eprintln!(rt; "mkbook: {error}");
+            ExitCode::FAILURE
+        }
     }
-    done
 }

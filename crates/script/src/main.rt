@@ -7,11 +7,11 @@ mod commands;
 mod report;
 
 use answering::answer;
-use anyhow::anyhow;
 use bench::Bench;
 use report::Report;
 use std::env;
 use std::io::Write;
+use std::process::ExitCode;
 
 const USAGE: &str =
     "usage: script < SCRIPT   runs a script of load, withdraw, try and compare, one to a line";
@@ -29,10 +29,11 @@ fn run(rt: &HostRuntime) -> anyhow::Result<()> {
     Ok(())
 }
 
-fn main(rt: HostRuntime) -> anyhow::Result<()> {
+fn main(rt: HostRuntime) -> anyhow::Result<ExitCode> {
     if env::args(&rt)?.count() > 1 {
         println!(rt; "{USAGE}")?;
-        return Err(anyhow!("no argument is taken"));
+        return Ok(ExitCode::FAILURE);
     }
-    run(&rt)
+    run(&rt)?;
+    Ok(ExitCode::SUCCESS)
 }

@@ -1,6 +1,6 @@
 -- What the reader answers. Assumes nothing.
 use Rattle.std.specs.Prelude.{◌≡◌, ℕ, ◌<◌, ◌≤◌, List, ◌++◌, map, length, drop, Ok, Err, Result}
-use Rattle.std.specs.List.{AllByRecursion as All}
+use Rattle.std.specs.List.{AllByRecursion}
 use Rattle.faults.specs.declared.Fault.{Fault}
 use Rattle.faults.specs.declared.Fault.TheVariants.{StrangeByte, Unexpected, LongName, TooDeep, TooLarge, ShortList}
 use Rattle.faults.specs.declared.Layer.TheVariants.{Text}
@@ -55,7 +55,7 @@ pub record Taken (t cs : List ℕ) (rs : List NameRow) (r : Counts) (cs' : List 
   pub within : Within t w ns
   pub only : (n d : ℕ) (v : List ℕ) (ms : List (List ℕ)) → Model t n d v ms → (v ≡ w) × (ms ≡ ns)
   pub tree : IsTree w ns
-  pub are_names : All IsName ns
+  pub are_names : AllByRecursion IsName ns
   pub codes : r.codes ≡ length w
   pub names : r.names ≡ length ns
   pub wrote : cs' ≡ w ++ drop (length w) cs

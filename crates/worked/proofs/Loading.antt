@@ -1,6 +1,6 @@
 -- The loads and the trial of the worked cases.
 use Rattle.std.proofs.Common.{◌≡◌, ℕ, zero, suc, ◌<◌, ◌≤◌, Bool, true, false, ◌⊎◌, List, [], ◌∷◌, ◌++◌, length, take, Some, None, Ok, Err, Result, sym, refl, ap, ◌∙◌, subst, inl, inr, ⊎_elim, arith}
-use Rattle.std.specs.List.{AllByRecursion as All}
+use Rattle.std.specs.List.{AllByRecursion}
 use Rattle.std.proofs.lemmas.Bool.{cases_lt, both_ways, false≢true}
 use Rattle.symbols.specs.Kinds.{KindLaws}
 use Rattle.faults.specs.declared.Fault.{Fault}
@@ -94,9 +94,9 @@ module _ {S : Type 0} (same : S → S → Bool) where
   -- no symbol of the list is the same as one before it
   abbrev Apart : List S → Type 0
   Apart [] = Unit {0}
-  Apart (a ∷ xs) = All (λ b. same b a ≡ false) xs × Apart xs
+  Apart (a ∷ xs) = AllByRecursion (λ b. same b a ≡ false) xs × Apart xs
 
-  not_like : (a : S) (xs : List S) → All (λ b. same b a ≡ false) xs → (x : ℕ) → like same (symbol_at xs x) a ≡ true → ⊥
+  not_like : (a : S) (xs : List S) → AllByRecursion (λ b. same b a ≡ false) xs → (x : ℕ) → like same (symbol_at xs x) a ≡ true → ⊥
   not_like a xs d zero h = false≢true h
   not_like a [] d (suc x) h = false≢true h
   not_like a (b ∷ xs) d (suc zero) h = both_ways (same b a) d.0 h

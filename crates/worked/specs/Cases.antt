@@ -1,6 +1,6 @@
 -- The worked cases, for three symbols a, b and x. Assumes nothing.
 use Rattle.std.specs.Prelude.{◌≡◌, ℕ, ◌*◌, ◌≤◌, Bool, true, false, List, [], ◌∷◌, ◌++◌, length, drop, Some, None, Ok, Err, Result}
-use Rattle.std.specs.List.{AllByRecursion as All}
+use Rattle.std.specs.List.{AllByRecursion}
 use Rattle.faults.specs.declared.Fault.{Fault}
 use Rattle.faults.specs.declared.Fault.TheVariants.{Ambiguous, ShortList}
 use Rattle.faults.specs.declared.Layer.TheVariants.{Compare}
@@ -75,7 +75,7 @@ module _ {S : Type 0} (same : S → S → Bool) (foreign : S → Bool) (a b x : 
     pub loop_then_b_refused : LoadEndsWith same (loop_then_b a b) (Err (Ambiguous 2 3))
     pub a_then_star_loads : LoadEndsWith same (a_then_star a) (Ok tt)
     -- so does each model that is compared or read below, so that a place may hold it
-    pub others_load : All (λ m. LoadEndsWith same m (Ok tt))
+    pub others_load : AllByRecursion (λ m. LoadEndsWith same m (Ok tt))
         (stars_star a b ∷ either_star a b ∷ stars a b ∷ empty_model ∷ only_a a ∷ a_x_b a x b ∷ a_b a b ∷ a_star a ∷ a_maybe_b a b ∷ [])
     pub a_b_b_tried : TrialAnswers same (a_maybe_b a b) (a ∷ b ∷ b ∷ []) (No 2)
 
