@@ -35,8 +35,8 @@ at_byte {t} {i} {b} {s} h = ap (λ (l : List ℕ). get_or l i 0) h.whole ∙ get
 at_tail : {t : List ℕ} {i b : ℕ} {s : List ℕ} → At t i (b ∷ s) → At t (i + 1) s
 at_tail {t} {i} {b} {s} h = at_right (i + 1) (b ∷ []) s refl h
 
-slice_at : {t : List ℕ} {i : ℕ} (k : ℕ) (s : List ℕ) → k ≡ i + length s → At t i s → slice t i k ≡ s
-slice_at {t} {i} k s e h =
+at_slice : {t : List ℕ} {i : ℕ} (k : ℕ) (s : List ℕ) → k ≡ i + length s → At t i s → slice t i k ≡ s
+at_slice {t} {i} k s e h =
     let n : k - i ≡ length s = omega arith in
     ap (λ (l : List ℕ). slice l i k) h.whole ∙ ap (take (k - i)) (drop_at h.front (s ++ h.back) i h.place) ∙ take_at s h.back (k - i) (sym n)
 
@@ -164,7 +164,7 @@ one_group t i k d s w ns e h n f =
     seq_group t i k d s w ns br (seq_from t (d - 1) (i + 1) (i + 1 + length s) (i + 1 + length s + 1) w [] ns [] (f (i + 1 + length s) refl br.inside) (rest_done stop br.stops))
 
 leaf_unit : (n : List ℕ) (t : List ℕ) (i k d j : ℕ) (m : List ℕ) → IsName n → k ≡ i + length n → At t i n → Marks t k j m → Is t 32 cp d i j (1 ∷ m) (n ∷ [])
-leaf_unit n t i k d j m f e h mk = subst (λ (y : List ℕ). Is t 32 cp d i j (1 ∷ m) (y ∷ [])) (slice_at k n e h) (cp_name (name_at t i k n e f h) mk)
+leaf_unit n t i k d j m f e h mk = subst (λ (y : List ℕ). Is t 32 cp d i j (1 ∷ m) (y ∷ [])) (at_slice k n e h) (cp_name (name_at t i k n e f h) mk)
 
 -- a part under a mark: b is the mark, c its code
 module _ (b c : ℕ) (mk : MarkOf b c) (a : Tree (List ℕ)) (fa : Facts a) where
