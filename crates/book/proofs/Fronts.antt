@@ -3,8 +3,9 @@ use Rattle.std.proofs.Common.{◌≡◌, ℕ, ◌+◌, ◌*◌, ◌<◌, ◌≤�
 use Rattle.std.specs.List.{range_with_len}
 use Rattle.std.proofs.lemmas.List.{append_assoc, append-nil, length-append, length-take, length-drop, drop-drop, take_all}
 use Rattle.std.proofs.lemmas.List.FromFn.{length-map-range_with_len, map-range_with_len_more}
+use Rattle.faults.specs.declared.Fault.TheVariants.{WrongBook}
 use Rattle.book.specs.Books.{two_bytes, together, entries_from, IsBook}
-use Rattle.book.specs.Entries.{count_in, offset_in, length_in, start_in, body_in, bodies_in, Right, FirstWrong}
+use Rattle.book.specs.Entries.{count_in, offset_in, length_in, start_in, body_in, bodies_in, Right, FirstWrong, Refused}
 use Rattle.book.proofs.Laid.{entries_push, together_push, take_add, Says, entry_says}
 
 -- the first k bodies as their entries give them
@@ -103,6 +104,14 @@ module _ (bytes : List ℕ) (k : ℕ) (left : List ℕ) (start : ℕ) (f : Front
             sum = omega (arith, f.sum, length_here);
             inside = λ _. within;
           }
+
+-- entry k is the first wrong one
+pub refused_at : (bytes : List ℕ) (k : ℕ) → length bytes ≤ 16384 → 1 ≤ count_in bytes → count_in bytes ≤ 16 → FirstWrong bytes k → Refused bytes (WrongBook k)
+refused_at bytes k short some most first = inr (short, (k, refl, inr (inl ((some, most), first))))
+
+-- all entries are right, and bytes are left over
+pub refused_over : (bytes left : List ℕ) (start : ℕ) → Front bytes (count_in bytes) left start → length bytes ≤ 16384 → 1 ≤ count_in bytes → count_in bytes ≤ 16 → start < length bytes → Refused bytes (WrongBook (count_in bytes))
+refused_over bytes left start f short some most over = inr (short, (count_in bytes, refl, inr (inr ((some, most), record { all = f.right; over = omega (arith, f.from) }, refl))))
 
 -- all entries are right, and the last body ends the bytes
 pub front_all : (bytes left : List ℕ) (start : ℕ) → Front bytes (count_in bytes) left start → length bytes ≤ start → 1 ≤ count_in bytes → count_in bytes ≤ 16 → length bytes ≤ 16384 → IsBook bytes (bodies_in bytes)

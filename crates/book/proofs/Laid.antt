@@ -1,5 +1,5 @@
 -- The layout of a book, read from its bytes and read from its bodies. Assumes nothing.
-use Rattle.std.proofs.Common.{◌≡◌, ℕ, zero, suc, ◌+◌, ◌*◌, ◌/◌, ◌%◌, ◌<◌, ◌≤◌, List, [], ◌∷◌, ◌++◌, map, length, get_or, take, drop, sym, refl, ap, ◌∙◌, subst, inl, inr, add-one, arith}
+use Rattle.std.proofs.Common.{◌≡◌, ℕ, zero, suc, ◌+◌, ◌*◌, ◌<◌, ◌≤◌, List, [], ◌∷◌, ◌++◌, map, length, get_or, take, drop, sym, refl, ap, ◌∙◌, subst, inl, inr, add-one, arith}
 use native.Mathlib.Nat.{mod-add-div}
 use Rattle.std.specs.List.{range_with_len}
 use Rattle.std.proofs.lemmas.List.{append_assoc, append-nil, length-append, length-drop, drop-drop, get_or-drop, take_at, drop_at}
@@ -165,15 +165,6 @@ module _ (bytes : List ℕ) (bodies : List (List ℕ)) (h : IsBook bytes bodies)
     e ∙ sym (get_or-map-range_with_len (body_in bytes) 0 (count_in bytes) k k [] g.0 (omega arith)) ∙ ap (λ (w : List (List ℕ)). get_or w k []) (sym book_bodies),
   )
 
--- four bytes as the two numbers that they are
-pub four_bytes : (s : List ℕ) (a b c d : ℕ) → 4 ≤ length s → a ≡ get_or s 0 0 → b ≡ get_or s 1 0 → c ≡ get_or s 2 0 → d ≡ get_or s 3 0 → a < 256 → c < 256 → s ≡ two_bytes (a + 256 * b) ++ (two_bytes (c + 256 * d) ++ drop 4 s)
-four_bytes [] a b c d h ea eb ec ed la lc = absurd (omega arith)
-four_bytes (w ∷ []) a b c d h ea eb ec ed la lc = absurd (omega arith)
-four_bytes (w ∷ x ∷ []) a b c d h ea eb ec ed la lc = absurd (omega arith)
-four_bytes (w ∷ x ∷ y ∷ []) a b c d h ea eb ec ed la lc = absurd (omega arith)
-four_bytes (w ∷ x ∷ y ∷ z ∷ s) a b c d h ea eb ec ed la lc =
-    let p : w ≡ (a + 256 * b) % 256 = omega arith in
-    let q : x ≡ (a + 256 * b) / 256 = omega arith in
-    let r : y ≡ (c + 256 * d) % 256 = omega arith in
-    let t : z ≡ (c + 256 * d) / 256 = omega arith in
-    cc
+-- each entry that a book counts holds
+pub book_held : (bytes : List ℕ) → IsBook bytes (bodies_in bytes) → (k : ℕ) → k < count_in bytes → Holds bytes k
+book_held bytes h k l = book_holds bytes (bodies_in bytes) h k (omega (arith, book_count bytes (bodies_in bytes) h))

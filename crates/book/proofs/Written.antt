@@ -2,7 +2,9 @@
 use Rattle.std.proofs.Common.{◌≡◌, ℕ, zero, suc, ◌+◌, ◌-◌, ◌*◌, ◌<◌, ◌≤◌, List, [], ◌∷◌, ◌++◌, length, get_or, take, drop, sym, refl, ap, ◌∙◌, subst, arith, Bor}
 use Rattle.std.proofs.lemmas.List.{append_assoc, append-nil, length-append, drop-drop, take_all, take_more, get_or-map, length-map}
 use Rattle.book.specs.Books.{two_bytes, together, entries_from, book_of, IsBook}
+use Rattle.book.specs.declared.pens.Pen.{Pen}
 use Rattle.book.specs.Puts.{Put}
+use Rattle.book.specs.Pens.{Writes}
 use Rattle.book.specs.Makings.{contents, Enough, Made}
 use Rattle.book.proofs.Laid.{entries_push, together_push, book_bodies}
 
@@ -21,8 +23,17 @@ put_put a b c at n m u v p q = record {
     later : (xs : List ℕ) → drop m xs ≡ drop (m - n) (drop n xs)
     later xs = let e : m ≡ n + (m - n) = omega (arith, q.ends) in ap (λ (k : ℕ). drop k xs) e ∙ sym (drop-drop (m - n) n xs)
 
-pub put_same : (a b : List ℕ) (at n : ℕ) (u v : List ℕ) → u ≡ v → Put a b at u n → Put a b at v n
-put_same a b at n u v e p = subst (λ (w : List ℕ). Put a b at w n) e p
+pub writes_none : (pen : Pen) → pen.at ≤ length pen.out.now → Writes pen pen []
+writes_none pen h = record { same = refl; put = put_none pen.out.now pen.at h }
+
+pub writes_writes : (a b c : Pen) (u v : List ℕ) → Writes a b u → Writes b c v → Writes a c (u ++ v)
+writes_writes a b c u v p q = record {
+  same = q.same ∙ p.same;
+  put = put_put a.out.now b.out.now c.out.now a.at b.at c.at u v p.put q.put;
+}
+
+pub writes_same : (a b : Pen) (u v : List ℕ) → u ≡ v → Writes a b u → Writes a b v
+writes_same a b u v e p = subst (λ (w : List ℕ). Writes a b w) e p
 
 -- what a slice is where none stands
 abbrev pub blank : Bor (List ℕ)
@@ -66,8 +77,8 @@ made_by bodies before after n enough short p =
     record { fits = p.fits; book = book; back = sym (book_bodies (take n after) bodies book); rest = p.rest; size = omega (arith, p.ends) }
 
 -- the count byte, the entries and the bodies, one after the other
-pub put_book : (bodies : List (List ℕ)) (count : ℕ) (a b c d : List ℕ) (l m n : ℕ) → length bodies ≡ count → Put a b 0 (count ∷ []) l → Put b c l (entries_from (1 + 4 * count) bodies) m → Put c d m (together bodies) n → Put a d 0 (book_of bodies) n
-put_book bodies count a b c d l m n e p q r =
-    put_same a d 0 n _ (book_of bodies)
+pub writes_book : (bodies : List (List ℕ)) (count : ℕ) (a b c d : Pen) → length bodies ≡ count → Writes a b (count ∷ []) → Writes b c (entries_from (1 + 4 * count) bodies) → Writes c d (together bodies) → Writes a d (book_of bodies)
+writes_book bodies count a b c d e p q r =
+    writes_same a d _ (book_of bodies)
     (ap (λ (k : ℕ). k ∷ (entries_from (1 + 4 * k) bodies ++ together bodies)) (sym e))
-    (put_put a c d 0 m n (count ∷ entries_from (1 + 4 * count) bodies) (together bodies) (put_put a b c 0 l m (count ∷ []) (entries_from (1 + 4 * count) bodies) p q) r)
+    (writes_writes a c d (count ∷ entries_from (1 + 4 * count) bodies) (together bodies) (writes_writes a b c (count ∷ []) (entries_from (1 + 4 * count) bodies) p q) r)

@@ -5,7 +5,7 @@ ghost use Rattle.book.specs.Entries.{RefusalsStand, OneFault, BodiesStand};
 
 pub mod lines;
 pub mod making;
-mod puts;
+mod pens;
 pub mod reading;
 
 /// The most bodies of a book.
@@ -15,22 +15,16 @@ pub const MOST_BODIES: usize = 16;
 pub const MOST_BYTES: usize = 16384;
 
 /// A refusal of `Book::read` means that the bytes are the book of no bodies.
-pub fn refusals_stand() -> u8
+pub fn refusals_stand()
     ensures { RefusalsStand }
-{
-    0
-}
+{}
 
 /// Bytes that are no book have one fault.
-pub fn one_fault() -> u8
+pub fn one_fault()
     ensures { OneFault }
-{
-    0
-}
+{}
 
 /// A book has one list of bodies: those that its entries give.
-pub fn bodies_stand() -> u8
+pub fn bodies_stand()
     ensures { BodiesStand }
-{
-    0
-}
+{}

@@ -1,116 +1,105 @@
 // The line that tells what a comparison found, into a lent list of bytes.
 ghost use Rattle.std.specs.Prelude.{◌≡◌, ◌+◌, ◌*◌, ◌<◌, ◌≤◌, [], ◌∷◌, ◌++◌, length, decimal, MatchResult};
-ghost use Rattle.book.specs.Puts.{Put};
-ghost use Rattle.book.specs.Line.{symbols_shown, forms_shown, dots, places_shown, verdict_shown, Places, LineWritten, LineRefused};
+ghost use Rattle.arrayvec.specs.ArrayVec.{array_vec_len};
+ghost use Rattle.book.specs.Line.{symbols_shown, forms_shown, dots, places_shown, verdict_shown, LineWritten, LineRefused};
 
-use super::puts::put;
+use super::pens::Pen;
+use arrayvec::ArrayVec;
 use faults::{Fault, Layer};
+use itoa::Buffer;
 use symbols::Printable;
 
-/// What a comparison found.
-#[derive(Clone, Copy, PartialEq, Eq, Debug, Drop)]
-pub enum Verdict {
-    /// The first model is included in the second.
-    Included,
-    /// It is not: how many symbols the word has that shows it.
-    Not(usize),
+/// The most symbols that a line shows.
+pub const MOST_SHOWN: usize = 8;
+
+/// More bytes than any line has.
+pub const MOST_TEXT: usize = 320;
+
+/// How many symbols are shown of a word of this length, if there is one.
+pub fn shown_symbols(missed: Option<usize>) -> usize
+    ensures { result ≡ symbols_shown missed }
+{
+    missed.map_or(0, |length| length.min(MOST_SHOWN))
 }
 
-/// How many symbols of the word are shown.
-fn shown_symbols(verdict: Verdict) -> usize
-    ensures { result ≡ symbols_shown verdict }
+/// Adds bytes that there is room for.
+fn add(text: &mut ArrayVec<u8, MOST_TEXT>, bytes: &[u8])
+    requires { array_vec_len text.old + length bytes.now ≤ 320 }
+    ensures { text.new.items ≡ text.old.items ++ bytes.now }
 {
-    match verdict {
-        Verdict::Included => 0,
-        Verdict::Not(count) => count.min(8),
+    text.try_extend_from_slice(bytes).unwrap();
+}
+
+/// Adds a number in decimal.
+fn add_decimal(text: &mut ArrayVec<u8, MOST_TEXT>, n: usize)
+    requires { array_vec_len text.old + length (decimal n) ≤ 320 }
+    ensures { text.new.items ≡ text.old.items ++ decimal n }
+{
+    add(text, Buffer::new().format(n).as_bytes());
+}
+
+/// Adds a space and the form of each symbol.
+fn add_forms<P: Printable>(text: &mut ArrayVec<u8, MOST_TEXT>, symbols: &[P])
+    requires { array_vec_len text.old + length (forms_shown P.Printable.written symbols.now) ≤ 320 }
+    ensures { text.new.items ≡ text.old.items ++ forms_shown P.Printable.written symbols.now }
+{
+    for symbol in symbols {
+        add(text, b" ");
+        add(text, symbol.written().text());
     }
 }
 
-/// Writes a number in decimal.
-fn put_decimal(n: usize, out: &mut [u8], at: usize) -> usize
-    requires { at + length (decimal n) ≤ length out.old }
-    ensures { Put out.old out.new at (decimal n) result }
+/// Adds the two places.
+fn add_places(text: &mut ArrayVec<u8, MOST_TEXT>, first: usize, second: usize)
+    requires { array_vec_len text.old + length (places_shown first second) ≤ 320 }
+    ensures { text.new.items ≡ text.old.items ++ places_shown first second }
 {
-    let digit = [b'0' + (n % 10) as u8];
-    if n < 10 {
-        return put(out, at, &digit);
+    add_decimal(text, first);
+    add(text, b" in ");
+    add_decimal(text, second);
+}
+
+/// Adds the sign for a word of more symbols than are shown, and the end of the line.
+fn add_end(text: &mut ArrayVec<u8, MOST_TEXT>, count: usize)
+    requires { array_vec_len text.old + 5 ≤ 320 }
+    ensures { text.new.items ≡ text.old.items ++ (dots count ++ (10 ∷ [])) }
+{
+    if count > MOST_SHOWN {
+        add(text, b" ...\n");
+    } else {
+        add(text, b"\n");
     }
-    let last = put_decimal(n / 10, out, at);
-    put(out, last, &digit)
 }
 
-/// Writes a space and the form of a symbol.
-fn put_form<P: Printable>(symbol: &P, out: &mut [u8], at: usize) -> usize
-    requires { at + 33 ≤ length out.old }
-    ensures { Put out.old out.new at (32 ∷ P.Printable.written symbol.now) result }
-{
-    let form = symbol.written();
-    let start = put(out, at, b" ");
-    put(out, start, form.text())
-}
-
-/// Writes a space and the form of each symbol.
-fn put_forms<P: Printable>(symbols: &[P], out: &mut [u8], at: usize) -> usize
-    requires { at + 33 * length symbols.now ≤ length out.old }
-    ensures { Put out.old out.new at (forms_shown P.Printable.written symbols.now) result }
-{
-    let mut end = at;
-    for i in 0..symbols.len() {
-        end = put_form(&symbols[i], out, end);
-    }
-    end
-}
-
-/// Writes the two places.
-fn put_places(first: usize, second: usize, out: &mut [u8]) -> usize
-    requires places { Places first second }
-    requires room { 8 ≤ length out.old }
-    ensures { Put out.old out.new 0 (places_shown first second) result }
-{
-    let end = put_decimal(first, out, 0);
-    let next = put(out, end, b" in ");
-    put_decimal(second, out, next)
-}
-
-/// Writes the sign for a word of over eight symbols, and the end of the line.
-fn put_end(count: usize, out: &mut [u8], at: usize) -> usize
-    requires { at + 5 ≤ length out.old }
-    ensures { Put out.old out.new at (dots count ++ (10 ∷ [])) result }
-{
-    if count > 8 {
-        return put(out, at, b" ...\n");
-    }
-    put(out, at, b"\n")
-}
-
-/// Writes what follows the places, with the symbols that are shown.
-fn put_verdict<P: Printable>(verdict: Verdict, shown: &[P], out: &mut [u8], at: usize) -> usize
+/// Adds what follows the places, with the symbols that are shown.
+fn add_verdict<P: Printable>(text: &mut ArrayVec<u8, MOST_TEXT>, missed: Option<usize>, shown: &[P])
     requires most { length shown.now ≤ 8 }
-    requires room { at + 305 ≤ length out.old }
-    ensures { Put out.old out.new at (verdict_shown P.Printable.written verdict shown.now) result }
+    requires room { array_vec_len text.old + 305 ≤ 320 }
+    ensures { text.new.items ≡ text.old.items ++ verdict_shown P.Printable.written missed shown.now }
 {
-    match verdict {
-        Verdict::Included => put(out, at, b": included\n"),
-        Verdict::Not(count) => {
-            let number = put(out, at, b": not, ");
-            let word = put_decimal(count, out, number);
-            let forms = put(out, word, b" symbols:");
-            let end = put_forms(shown, out, forms);
-            put_end(count, out, end)
+    match missed {
+        None => add(text, b": included\n"),
+        Some(length) => {
+            add(text, b": not, ");
+            add_decimal(text, length);
+            add(text, b" symbols:");
+            add_forms(text, shown);
+            add_end(text, length);
         }
     }
 }
 
-/// Writes the line of two places, a verdict and the first symbols of its word first into the list, and gives its length. The first place that is
-/// not below 16 gives fault 8, fewer symbols than are shown 11, and a list too short for the line 11.
+/// Writes the line of two places first into the list, and gives its length. `missed` is how many symbols the word has that shows that the first model is
+/// not included in the second, and none where it is included; the symbols are the first of that word. The first place that is not below 16 gives fault 8,
+/// fewer symbols than are shown 11, and a list too short for the line 11.
 pub fn line<P: Printable>(
     first: usize,
     second: usize,
-    verdict: Verdict,
+    missed: Option<usize>,
     symbols: &[P],
     out: &mut [u8],
 ) -> Result<usize, Fault>
-    ensures { MatchResult result (λ n. LineWritten P.Printable.written first second verdict symbols.now out.old out.new n) (λ f. LineRefused P.Printable.written first second verdict symbols.now (length out.old) f × (out.new ≡ out.old)) }
+    ensures { MatchResult result (λ n. LineWritten P.Printable.written first second missed symbols.now out.old out.new n) (λ f. LineRefused P.Printable.written first second missed symbols.now (length out.old) f × (out.new ≡ out.old)) }
 {
     if first >= 16 {
         return Err(Fault::NoPlace { place: first });
@@ -118,21 +107,23 @@ pub fn line<P: Printable>(
     if second >= 16 {
         return Err(Fault::NoPlace { place: second });
     }
-    let shown = shown_symbols(verdict);
+    let shown = shown_symbols(missed);
     if symbols.len() < shown {
         return Err(Fault::ShortList {
             layer: Layer::Line,
             cells: shown,
         });
     }
-    let mut text = [0; 320];
-    let next = put_places(first, second, &mut text);
-    let end = put_verdict(verdict, &symbols[0..shown], &mut text, next);
-    if out.len() < end {
+    let mut text = ArrayVec::new();
+    add_places(&mut text, first, second);
+    add_verdict(&mut text, missed, &symbols[..shown]);
+    if out.len() < text.len() {
         return Err(Fault::ShortList {
             layer: Layer::Line,
-            cells: end,
+            cells: text.len(),
         });
     }
-    Ok(put(out, 0, &text[0..end]))
+    let mut pen = Pen::new(out);
+    pen.put(&text);
+    Ok(pen.at)
 }

@@ -1,10 +1,10 @@
 // The making of a book, into a lent list of bytes.
 ghost use Rattle.std.specs.Prelude.{◌≡◌, ◌+◌, ◌*◌, ◌<◌, ◌≤◌, ◌++◌, length, MatchOption, MatchResult};
 ghost use Rattle.book.specs.Books.{two_bytes, together, entries_from, book_of};
-ghost use Rattle.book.specs.Puts.{Put};
+ghost use Rattle.book.specs.Pens.{Writes};
 ghost use Rattle.book.specs.Makings.{contents, Made, Unmade};
 
-use super::puts::put;
+use super::pens::Pen;
 use super::{MOST_BODIES, MOST_BYTES};
 use faults::{Fault, Layer};
 
@@ -24,59 +24,49 @@ fn book_size(bodies: &[&[u8]]) -> Option<usize>
 }
 
 /// Writes an entry.
-fn put_entry(out: &mut [u8], at: usize, offset: usize, size: usize) -> usize
-    requires room { at + 4 ≤ length out.old }
+fn put_entry(pen: &mut Pen, offset: usize, size: usize)
+    requires room { pen.old.at + 4 ≤ length pen.old.out.now }
     requires offset { offset < 65536 }
     requires size { size < 65536 }
-    ensures { Put out.old out.new at (two_bytes offset ++ two_bytes size) result }
+    ensures { Writes pen.old pen.new (two_bytes offset ++ two_bytes size) }
 {
-    let entry = [
-        (offset % 256) as u8,
-        (offset / 256) as u8,
-        (size % 256) as u8,
-        (size / 256) as u8,
-    ];
-    put(out, at, &entry)
+    pen.put(&(offset as u16).to_le_bytes());
+    pen.put(&(size as u16).to_le_bytes());
 }
 
 /// Writes an entry for each body.
-fn put_entries(bodies: &[&[u8]], out: &mut [u8], at: usize) -> usize
-    requires room { at + 4 * length bodies.now ≤ length out.old }
+fn put_entries(pen: &mut Pen, bodies: &[&[u8]])
+    requires room { pen.old.at + 4 * length bodies.now ≤ length pen.old.out.now }
     requires short { length (book_of (contents bodies.now)) ≤ 16384 }
-    ensures { Put out.old out.new at (entries_from (1 + 4 * length bodies.now) (contents bodies.now)) result }
+    ensures { Writes pen.old pen.new (entries_from (1 + 4 * length bodies.now) (contents bodies.now)) }
 {
-    let mut end = at;
     let mut offset = 1 + 4 * bodies.len();
     for body in bodies {
-        end = put_entry(out, end, offset, body.len());
+        put_entry(pen, offset, body.len());
         offset += body.len();
     }
-    end
 }
 
 /// Writes the bodies, one after the other.
-fn put_bodies(bodies: &[&[u8]], out: &mut [u8], at: usize) -> usize
-    requires { at + length (together (contents bodies.now)) ≤ length out.old }
-    ensures { Put out.old out.new at (together (contents bodies.now)) result }
+fn put_bodies(pen: &mut Pen, bodies: &[&[u8]])
+    requires { pen.old.at + length (together (contents bodies.now)) ≤ length pen.old.out.now }
+    ensures { Writes pen.old pen.new (together (contents bodies.now)) }
 {
-    let mut end = at;
     for body in bodies {
-        end = put(out, end, body);
+        pen.put(body);
     }
-    end
 }
 
 /// Writes the book of the bodies.
-fn put_book(bodies: &[&[u8]], out: &mut [u8]) -> usize
+fn put_book(pen: &mut Pen, bodies: &[&[u8]])
     requires few { length bodies.now ≤ 16 }
     requires short { length (book_of (contents bodies.now)) ≤ 16384 }
-    requires room { length (book_of (contents bodies.now)) ≤ length out.old }
-    ensures { Put out.old out.new 0 (book_of (contents bodies.now)) result }
+    requires room { pen.old.at + length (book_of (contents bodies.now)) ≤ length pen.old.out.now }
+    ensures { Writes pen.old pen.new (book_of (contents bodies.now)) }
 {
-    let count = [bodies.len() as u8];
-    let entries = put(out, 0, &count);
-    let first = put_entries(bodies, out, entries);
-    put_bodies(bodies, out, first)
+    pen.put(&[bodies.len() as u8]);
+    put_entries(pen, bodies);
+    put_bodies(pen, bodies);
 }
 
 /// Writes the book of the bodies first into the list, and gives its length. No body or over 16 give fault 13 at 0, a book of over 16,384 bytes 5,
@@ -84,20 +74,20 @@ fn put_book(bodies: &[&[u8]], out: &mut [u8]) -> usize
 pub fn make(bodies: &[&[u8]], out: &mut [u8]) -> Result<usize, Fault>
     ensures { MatchResult result (λ n. Made (contents bodies.now) out.old out.new n) (λ f. Unmade (contents bodies.now) (length out.old) f × (out.new ≡ out.old)) }
 {
-    if bodies.len() < 1 || bodies.len() > MOST_BODIES {
+    if !(1..=MOST_BODIES).contains(&bodies.len()) {
         return Err(Fault::WrongBook { entry: 0 });
     }
-    let Some(size) = book_size(bodies) else {
-        return Err(Fault::TooLarge {
-            layer: Layer::Book,
-            limit: MOST_BYTES,
-        });
-    };
+    let size = book_size(bodies).ok_or(Fault::TooLarge {
+        layer: Layer::Book,
+        limit: MOST_BYTES,
+    })?;
     if out.len() < size {
         return Err(Fault::ShortList {
             layer: Layer::Book,
             cells: size,
         });
     }
-    Ok(put_book(bodies, out))
+    let mut pen = Pen::new(out);
+    put_book(&mut pen, bodies);
+    Ok(pen.at)
 }

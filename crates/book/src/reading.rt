@@ -10,6 +10,7 @@ use faults::{Fault, Layer};
 #[derive(Clone, Copy)]
 pub struct Book<'a> {
     bytes: &'a [u8],
+    ghost whole: { IsBook bytes.now (bodies_in bytes.now) },
 }
 
 /// What an entry gives: where its body begins, and the body's length.
@@ -27,8 +28,8 @@ fn first_entry(entries: &[u8]) -> Option<(Entry, &[u8])>
         return None;
     };
     let entry = Entry {
-        offset: usize::from(*offset_low) + 256 * usize::from(*offset_high),
-        size: usize::from(*length_low) + 256 * usize::from(*length_high),
+        offset: usize::from(u16::from_le_bytes([*offset_low, *offset_high])),
+        size: usize::from(u16::from_le_bytes([*length_low, *length_high])),
     };
     Some((entry, rest))
 }
@@ -49,15 +50,14 @@ impl<'a> Book<'a> {
             return Err(Fault::WrongBook { entry: 0 });
         };
         let count = usize::from(*count);
-        if count < 1 || count > MOST_BODIES {
+        if !(1..=MOST_BODIES).contains(&count) {
             return Err(Fault::WrongBook { entry: 0 });
         }
         let mut entries = rest;
         let mut start = 1 + 4 * count;
+        // k is the number that a fault names: the entries are taken from the front of what is left.
         for k in 0..count {
-            let Some((entry, others)) = first_entry(entries) else {
-                return Err(Fault::WrongBook { entry: k });
-            };
+            let (entry, others) = first_entry(entries).ok_or(Fault::WrongBook { entry: k })?;
             if entry.offset != start || start + entry.size > bytes.len() {
                 return Err(Fault::WrongBook { entry: k });
             }
@@ -75,11 +75,7 @@ impl<'a> Book<'a> {
         ensures value { result ≡ count_in self.now.bytes.now }
         ensures bound { result < 256 }
     {
-        let bytes = self.bytes;
-        match bytes {
-            [count, ..] => usize::from(*count),
-            [] => 0,
-        }
+        usize::from(self.bytes[0])
     }
 
     /// The k-th body, a part of the book's bytes; none past the last.
@@ -90,19 +86,7 @@ impl<'a> Book<'a> {
         if k >= self.count() {
             return None;
         }
-        let bytes = self.bytes;
-        let at = 1 + 4 * k;
-        if at > bytes.len() {
-            return None;
-        }
-        let Some((entry, _)) = first_entry(&bytes[at..]) else {
-            return None;
-        };
-        let start = entry.offset;
-        let end = start + entry.size;
-        if end > bytes.len() {
-            return None;
-        }
-        Some(&bytes[start..end])
+        let (entry, _) = first_entry(&self.bytes[1 + 4 * k..]).unwrap();
+        Some(&self.bytes[entry.offset..entry.offset + entry.size])
     }
 }

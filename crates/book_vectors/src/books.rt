@@ -8,10 +8,7 @@ use std::test::Fail;
 const TWO: &[u8; 23] = b"\x02\x09\x00\x06\x00\x0f\x00\x08\x00(a,b?)(a,b,c?)";
 
 fn refused(bytes: &[u8], fault: Fault) -> bool {
-    match Book::read(bytes) {
-        Ok(_) => false,
-        Err(found) => found == fault,
-    }
+    Book::read(bytes).is_err_and(|found| found == fault)
 }
 
 fn wrong(bytes: &[u8], entry: usize) -> bool {
@@ -20,50 +17,28 @@ fn wrong(bytes: &[u8], entry: usize) -> bool {
 
 /// The first n bytes alone are wrong at the entry.
 fn wrong_cut(bytes: &[u8], n: usize, entry: usize) -> bool {
-    n <= bytes.len() && wrong(&bytes[0..n], entry)
+    bytes.get(..n).is_some_and(|cut| wrong(cut, entry))
 }
 
 fn has_body(bytes: &[u8], k: usize, expected: &[u8]) -> bool {
-    match Book::read(bytes) {
-        Ok(book) => match book.body(k) {
-            Some(body) => body == expected,
-            None => false,
-        },
-        Err(_) => false,
-    }
+    Book::read(bytes).is_ok_and(|book| book.body(k).is_some_and(|body| body == expected))
 }
 
 fn has_bodies(bytes: &[u8], count: usize) -> bool {
-    match Book::read(bytes) {
-        Ok(book) => match book.body(count) {
-            Some(_) => false,
-            None => book.count() == count,
-        },
-        Err(_) => false,
-    }
+    Book::read(bytes).is_ok_and(|book| book.count() == count && book.body(count).is_none())
 }
 
 /// What `make` writes into 32 cells that hold 7s is `expected`, and then 7s.
 fn made(bodies: &[&[u8]], expected: &[u8; 32]) -> bool {
     let mut out = [7; 32];
-    match make(bodies, &mut out) {
-        Ok(_) => out == *expected,
-        Err(_) => false,
-    }
+    make(bodies, &mut out).is_ok() && out == *expected
 }
 
 /// `make` refuses the bodies in `cells` cells that hold 7s, and leaves the 7s.
 fn unmade(bodies: &[&[u8]], cells: usize, fault: Fault) -> bool {
     let mut out = [7; 32];
-    let found = if cells < 32 {
-        make(bodies, &mut out[0..cells])
-    } else {
-        make(bodies, &mut out)
-    };
-    match found {
-        Ok(_) => false,
-        Err(other) => other == fault && out == [7; 32],
-    }
+    let found = make(bodies, &mut out[..cells.min(32)]);
+    found.is_err_and(|other| other == fault) && out == [7; 32]
 }
 
 #[test]
@@ -76,6 +51,7 @@ fn two_bodies(rt: HostRuntime) {
 /// Up to 4 bytes the first entry is cut, or the count is missing; up to 14 the first body is cut, and from 15 on the second.
 #[test]
 fn cut_at_every_byte(rt: HostRuntime) {
+    // n is a length.
     for n in 0..23 {
         assert!(rt; wrong_cut(TWO, n, if n < 15 { 0 } else { 1 }));
     }
@@ -95,8 +71,8 @@ fn bad_count(rt: HostRuntime) -> Result<(), Fail> {
     assert!(rt; wrong(b"\x00\x05\x00\x00\x00", 0));
     let mut bytes = [0; 69];
     bytes[0] = 17;
-    for k in 0..17 {
-        bytes[1 + 4 * k] = 69;
+    for offset in bytes[1..].iter_mut().step_by(4) {
+        *offset = 69;
     }
     assert!(rt; wrong(&bytes, 0));
     Ok(())
@@ -106,8 +82,8 @@ fn bad_count(rt: HostRuntime) -> Result<(), Fail> {
 fn sixteen_empty_bodies(rt: HostRuntime) -> Result<(), Fail> {
     let mut bytes = [0; 65];
     bytes[0] = 16;
-    for k in 0..16 {
-        bytes[1 + 4 * k] = 65;
+    for offset in bytes[1..].iter_mut().step_by(4) {
+        *offset = 65;
     }
     assert!(rt; has_bodies(&bytes, 16));
     assert!(rt; has_body(&bytes, 15, b""));
@@ -127,13 +103,9 @@ fn misplaced(rt: HostRuntime) {
 #[test]
 fn longest(rt: HostRuntime) {
     let mut bytes = [b'a'; 16385];
-    bytes[0] = 1;
-    bytes[1] = 5;
-    bytes[2] = 0;
-    bytes[3] = 0xfb;
-    bytes[4] = 0x3f;
-    assert!(rt; has_bodies(&bytes[0..16384], 1));
-    assert!(rt; has_body(&bytes[0..16384], 0, &bytes[5..16384]));
+    bytes[..5].copy_from_slice(b"\x01\x05\x00\xfb\x3f");
+    assert!(rt; has_bodies(&bytes[..16384], 1));
+    assert!(rt; has_body(&bytes[..16384], 0, &bytes[5..16384]));
     bytes[3] = 0xfc;
     assert!(rt;
         refused(
@@ -157,10 +129,10 @@ fn made_and_read_back(rt: HostRuntime) -> Result<(), Fail> {
     let mut out = [7; 32];
     let size = make(&[b"(a,b?)", b"", b"x"], &mut out)?;
     assert!(rt; size == 20);
-    assert!(rt; has_bodies(&out[0..20], 3));
-    assert!(rt; has_body(&out[0..20], 0, b"(a,b?)"));
-    assert!(rt; has_body(&out[0..20], 1, b""));
-    assert!(rt; has_body(&out[0..20], 2, b"x"));
+    assert!(rt; has_bodies(&out[..20], 3));
+    assert!(rt; has_body(&out[..20], 0, b"(a,b?)"));
+    assert!(rt; has_body(&out[..20], 1, b""));
+    assert!(rt; has_body(&out[..20], 2, b"x"));
     Ok(())
 }
 
@@ -192,7 +164,7 @@ fn unmade_and_unchanged(rt: HostRuntime) {
     );
     assert!(rt;
         unmade(
-            &[&body[0..16379]],
+            &[&body[..16379]],
             32,
             Fault::ShortList {
                 layer: Layer::Book,

@@ -1,15 +1,20 @@
 -- The check of codes: one code more, and the end.
-use Rattle.std.proofs.Common.{◌≡◌, ℕ, ◌+◌, ◌-◌, ◌<◌, ◌≤◌, ltb, List, [], ◌∷◌, length, get_or, drop, Some, Option, sym, refl, ap, ◌∙◌, subst, inl, inr, arith}
-use Rattle.std.proofs.lemmas.Bool.{lt-ltb, eq-eqb, ne_eqb, cases_eq}
+use Rattle.std.proofs.Common.{◌≡◌, ℕ, ◌+◌, ◌-◌, ◌<◌, ◌≤◌, ltb, List, [], ◌∷◌, length, get_or, drop, Some, Ok, Err, Result, ◌⊎◌, refl, ap, ◌∙◌, inl, inr, arith}
+use Rattle.std.specs.Result.{result_ok}
+use Rattle.std.proofs.lemmas.Bool.{lt-ltb, eq-eqb, ne_eqb}
 use Rattle.std.proofs.lemmas.List.{drop_more, drop_all}
-use Rattle.codes.specs.declared.Tally.{Tally}
+use Rattle.codes.specs.declared.code.Code.{Code}
+use Rattle.codes.specs.declared.code.Code.TheVariants.{Then, Either, Optional, Star, Plus}
+use Rattle.codes.specs.declared.code.UnknownCode.{UnknownCode}
+use Rattle.codes.specs.Code.{Decodes, code_number}
 use Rattle.codes.specs.Tree.{Tree, leaf, then, either, maybe, many, some}
 use Rattle.codes.specs.Build.{goes, stops, model, fault, fresh, unary, binary, step, all_used, finish, after, build_on, build}
 use Rattle.codes.specs.Counting.{Advances}
 
 -- one code
-pub at_code : (n code k u : ℕ) (o : Option Tally) (s : List (Tree ℕ)) → code ≡ k → Advances o (step n k s u) → Advances o (step n code s u)
-at_code n code k u o s e h = subst (λ (c : ℕ). Advances o (step n c s u)) (sym e) h
+pub decoded : (number : ℕ) (r : Result Code UnknownCode) (code : Code) → Decodes number r → Some code ≡ result_ok r → code_number code ≡ number
+decoded number (Ok k) code d e = cc
+decoded number (Err f) code d e = cc
 
 pub fresh_advances : (n u d : ℕ) (s : List (Tree ℕ)) → u < n → length s ≡ d → Advances (Some (record { parts = d + 1; used = u + 1 })) (fresh (ltb u n) s u)
 fresh_advances n u d s h k = (leaf (u + 1) ∷ s, ap (λ b. fresh b s u) (lt-ltb u n h), omega arith)
@@ -25,23 +30,21 @@ pub unary_advances : (f : Tree ℕ → Tree ℕ) (u d : ℕ) (s : List (Tree ℕ
 unary_advances f u d [] h k = absurd (omega arith)
 unary_advances f u d (e ∷ s) h k = (f e ∷ s, refl, k)
 
-pub two_advances : (n code u d : ℕ) (s : List (Tree ℕ)) → 2 ≤ code → code ≤ 3 → 2 ≤ d → length s ≡ d
-    → Advances (Some (record { parts = d - 1; used = u })) (step n code s u)
-two_advances n code u d s a b h k =
-    elim (cases_eq code 2) [
-      | inl e ↦ at_code n code 2 u (Some _) s e (binary_advances then u d s h k)
-      | inr e ↦ at_code n code 3 u (Some _) s (omega arith) (binary_advances either u d s h k)
+pub two_advances : (n u d : ℕ) (code : Code) (s : List (Tree ℕ)) → (code ≡ Then) ⊎ (code ≡ Either) → 2 ≤ d → length s ≡ d
+    → Advances (Some (record { parts = d - 1; used = u })) (step n (code_number code) s u)
+two_advances n u d code s e h k =
+    elim e [
+      | inl q ↦ rw q (binary_advances then u d s h k)
+      | inr q ↦ rw q (binary_advances either u d s h k)
     ]
 
-pub one_advances : (n code u d : ℕ) (s : List (Tree ℕ)) → 4 ≤ code → code ≤ 6 → 1 ≤ d → length s ≡ d
-    → Advances (Some (record { parts = d; used = u })) (step n code s u)
-one_advances n code u d s a b h k =
-    elim (cases_eq code 4) [
-      | inl e ↦ at_code n code 4 u (Some _) s e (unary_advances maybe u d s h k)
-      | inr e ↦ elim (cases_eq code 5) [
-        | inl f ↦ at_code n code 5 u (Some _) s f (unary_advances many u d s h k)
-        | inr f ↦ at_code n code 6 u (Some _) s (omega arith) (unary_advances some u d s h k)
-      ]
+pub one_advances : (n u d : ℕ) (code : Code) (s : List (Tree ℕ)) → (code ≡ Optional) ⊎ ((code ≡ Star) ⊎ (code ≡ Plus)) → 1 ≤ d → length s ≡ d
+    → Advances (Some (record { parts = d; used = u })) (step n (code_number code) s u)
+one_advances n u d code s e h k =
+    elim e [
+      | inl q ↦ rw q (unary_advances maybe u d s h k)
+      | inr (inl q) ↦ rw q (unary_advances many u d s h k)
+      | inr (inr q) ↦ rw q (unary_advances some u d s h k)
     ]
 
 -- all codes

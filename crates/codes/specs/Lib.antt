@@ -1,3 +1,4 @@
+pub mod Code
 pub mod Tree
 pub mod Build
 pub mod Checked

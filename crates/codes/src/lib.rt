@@ -8,6 +8,9 @@ ghost use Rattle.codes.specs.Checked.{Checked};
 ghost use Rattle.codes.specs.Counting.{Advances, Limited, OneMore};
 ghost use Rattle.codes.specs.Theorems.{Building, OneAnswer, OneTree};
 
+mod code;
+
+pub use code::{Code, UnknownCode};
 use faults::{Fault, Layer};
 
 /// The most symbols that a model may have.
@@ -30,20 +33,20 @@ fn advance(tally: Tally, code: u8, symbols: usize) -> Option<Tally>
     ensures made { (s : List (Tree ℕ)) → length s ≡ tally.parts → Advances result (step symbols code s tally.used) }
 {
     let Tally { parts, used } = tally;
-    match code {
-        0 => Some(Tally {
+    match Code::try_from(code).ok()? {
+        Code::Empty => Some(Tally {
             parts: parts + 1,
             used,
         }),
-        1 if used < symbols => Some(Tally {
+        Code::Symbol if used < symbols => Some(Tally {
             parts: parts + 1,
             used: used + 1,
         }),
-        2 | 3 if parts >= 2 => Some(Tally {
+        Code::Then | Code::Either if parts >= 2 => Some(Tally {
             parts: parts - 1,
             used,
         }),
-        4 | 5 | 6 if parts >= 1 => Some(tally),
+        Code::Optional | Code::Star | Code::Plus if parts >= 1 => Some(tally),
         _ => None,
     }
 }
@@ -74,10 +77,7 @@ pub fn check(codes: &[u8], symbols: usize) -> Result<(), Fault>
     within_limits(codes, symbols)?;
     let mut tally = Tally { parts: 0, used: 0 };
     for (i, code) in codes.iter().enumerate() {
-        match advance(tally, *code, symbols) {
-            Some(next) => tally = next,
-            None => return Err(Fault::Malformed { at: i }),
-        }
+        tally = advance(tally, *code, symbols).ok_or(Fault::Malformed { at: i })?;
     }
     if tally.parts == 1 && tally.used == symbols {
         Ok(())
@@ -87,22 +87,16 @@ pub fn check(codes: &[u8], symbols: usize) -> Result<(), Fault>
 }
 
 /// The codes of a tree determine its shape, and with what stands at its symbols the tree.
-pub fn one_tree<T>() -> u8
+pub fn one_tree<T>()
     ensures { OneTree T }
-{
-    0
-}
+{}
 
 /// Building and writing in postfix order are inverse.
-pub fn building_inverts() -> u8
+pub fn building_inverts()
     ensures { Building }
-{
-    0
-}
+{}
 
 /// Each list of codes has one answer.
-pub fn one_answer() -> u8
+pub fn one_answer()
     ensures { OneAnswer }
-{
-    0
-}
+{}

@@ -10,11 +10,10 @@ use Rattle.models.specs.declared.trials.Trial.{Trial}
 use Rattle.models.specs.Told.{Flawed, refused, ambiguous}
 use Rattle.models.proofs.Answered.{one_answer}
 use Rattle.tables.specs.Tables.{Table}
-use Rattle.product.specs.declared.Compared.{Compared}
 use Rattle.product.proofs.Answered.{one}
 use Rattle.shelf.specs.Calls.{Done, Judges, LoadEnds, TrialEnds}
 use Rattle.shelf.proofs.Refining.{ok_err}
-use Rattle.comparison.specs.declared.calls.Answer.{Answer}
+use Rattle.comparison.specs.Answers.{Reply}
 use Rattle.comparison.specs.Compares.{CompareEnds}
 use Rattle.comparison.specs.Runs.{Request, loads, withdraws, tries, compares, place_of, answer_of_done, answer_of_trial, answer_of_compare, Plain, changed, step, Says, Lives, rests, calls}
 use Rattle.comparison.specs.Promise.{FormedOf, AllFormed, OneAnswer, OneLife}
@@ -56,13 +55,13 @@ module _ {S : Type 0} (same : S → S → Bool) where
   formed_withdrawn p k (Ok u) f = tt
   formed_withdrawn p k (Err g) f = f
 
-  formed_on : (places : ℕ → Bool) (work : ℕ) (a : Request S) (k : Option (Model S)) (word word' : List ℕ) (r : Answer) → FormedOf k → Says same places work a k word r word' → FormedOf (changed a r k)
+  formed_on : (places : ℕ → Bool) (work : ℕ) (a : Request S) (k : Option (Model S)) (word word' : List ℕ) (r : Reply) → FormedOf k → Says same places work a k word r word' → FormedOf (changed a r k)
   formed_on places work (loads p m) k word word' r f h = subst (λ x. FormedOf (changed (loads p m) x k)) (sym h.1.1) (formed_loaded (places p) (is_some k) p m k h.1.0 f h.1.2)
   formed_on places work (withdraws p) k word word' r f h = subst (λ x. FormedOf (changed (withdraws p) x k)) (sym h.1) (formed_withdrawn p k _ f)
   formed_on places work (tries p w) k word word' r f h = f
   formed_on places work (compares p t) k word word' r f h = f
 
-  formed_step : (places : ℕ → Bool) (work : ℕ) (a : Request S) (plain : Plain S) (word word' : List ℕ) (r : Answer) → AllFormed plain
+  formed_step : (places : ℕ → Bool) (work : ℕ) (a : Request S) (plain : Plain S) (word word' : List ℕ) (r : Reply) → AllFormed plain
       → Says same places work a (plain (place_of a)) word r word' → AllFormed (step a r plain)
   formed_step places work a plain word word' r f h q =
       ⊎_elim
@@ -72,7 +71,7 @@ module _ {S : Type 0} (same : S → S → Bool) where
       (cases_eq q (place_of a))
 
 module _ {S : Type 0} (same : S → S → Bool) {foreign : S → Bool} (laws : KindLaws same foreign) where
-  one_compare : (t : Table S) (here : Bool) (p : ℕ) (k : Option (Model S)) → FormedOf k → (work : ℕ) (word u v : List ℕ) (r s : Result Compared Fault)
+  one_compare : (t : Table S) (here : Bool) (p : ℕ) (k : Option (Model S)) → FormedOf k → (work : ℕ) (word u v : List ℕ) (r s : Result (Option ℕ) Fault)
       → CompareEnds same t here p k work word r u → CompareEnds same t here p k work word s v → (r ≡ s) × (u ≡ v)
   one_compare t false p k f work word u v r s h j = (h.0 ∙ sym j.0, h.1 ∙ sym j.1)
   one_compare t true p None f work word u v r s h j = (h.0 ∙ sym j.0, h.1 ∙ sym j.1)

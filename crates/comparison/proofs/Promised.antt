@@ -11,8 +11,7 @@ use Rattle.tables.proofs.Piles.{skip_is, limit_is, pile_is}
 use Rattle.tables.proofs.PlaceLaws.{place_sound, place_alike}
 use Rattle.product.specs.Compares.{little_work, little_word, included, missed}
 use Rattle.product.proofs.Answered.{exactly}
-use Rattle.shelf.specs.declared.records.Record.{Record}
-use Rattle.shelf.specs.declared.records.Record.TheVariants.{Empty, Taken}
+use Rattle.shelf.specs.declared.records.Summary.{Summary}
 use Rattle.shelf.specs.Places.{record_at, cells_of, HoldsAt}
 use Rattle.shelf.specs.Calls.{Done}
 use Rattle.shelf.specs.Theorems.{PlaceReaders}
@@ -23,10 +22,10 @@ use Rattle.comparison.proofs.Running.{runs_agree}
 use Rattle.comparison.proofs.Answered.{one_says, one_life}
 
 module _ {S : Type 0} (same : S → S → Bool) where
-  holds_formed : (found : Record) (ss : List S) (ns : List ℕ) (q : ℕ) (k : Option (Model S)) → HoldsAt same found ss ns q k → FormedOf k
+  holds_formed : (found : Option Summary) (ss : List S) (ns : List ℕ) (q : ℕ) (k : Option (Model S)) → HoldsAt same found ss ns q k → FormedOf k
   holds_formed found ss ns q None h = tt
-  holds_formed Empty ss ns q (Some m) h = absurd h
-  holds_formed (Taken c) ss ns q (Some m) h = h.1.tables.formed
+  holds_formed None ss ns q (Some m) h = absurd h
+  holds_formed (Some c) ss ns q (Some m) h = h.1.tables.formed
 
   flawed_exactly : (m : Model S) (f : Fault) → Formed m → Flawed same m f → ((x : ℕ) × (y : ℕ) × (◌≡◌ {A = Done} (Err f) (Err (Ambiguous x y)))) ↔ ((x : ℕ) × (y : ℕ) × Competes same m x y)
   flawed_exactly m f w (refused h) = absurd (not_refused _ _ f w h)

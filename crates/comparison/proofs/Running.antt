@@ -8,7 +8,8 @@ use Rattle.shelf.specs.declared.shelves.Shelf.{Shelf}
 use Rattle.shelf.specs.Places.{room, has, Holds}
 use Rattle.shelf.specs.Calls.{Done, after_load, after_withdraw}
 use Rattle.shelf.proofs.Refining.{load_refines, withdraw_refines, try_refines}
-use Rattle.comparison.specs.declared.calls.Answer.{Answer}
+use Rattle.comparison.specs.declared.calls.TooFewAnswers.{TooFewAnswers}
+use Rattle.comparison.specs.Answers.{Reply}
 use Rattle.comparison.specs.Runs.{Request, place_of, answer_of_done, Memory, Lists, lent, Did, load, withdraw, try, compare, Run, none, more, Plain, when_done, changed, step, Says, Lives, rests, calls, Agrees, Matches, RunsAgree, Replayed, Replays, ReplaysNew}
 use Rattle.comparison.proofs.Ending.{compares_length, compare_ends}
 
@@ -27,32 +28,32 @@ module _ {S : Type 0} where
 
 module _ {S : Type 0} (same : S → S → Bool) where
   -- the same call and answer under other names
-  pub did_as : {s t : Memory S} {a b : Request S} {r x : Answer} → b ≡ a → x ≡ r → Did same s a r t → Did same s b x t
+  pub did_as : {s t : Memory S} {a b : Request S} {r x : Reply} → b ≡ a → x ≡ r → Did same s a r t → Did same s b x t
   did_as {s} {t} {a} {b} {r} {x} e f d = subst (λ y. Did same s y x t) (sym e) (subst (λ y. Did same s a y t) (sym f) d)
 
   -- one call more
-  run_more : {s t u : Memory S} {asks : List (Request S)} {rs : List Answer} {a : Request S} {r : Answer} → Run same s asks rs t → Did same t a r u → Run same s (asks ++ a ∷ []) (rs ++ r ∷ []) u
+  run_more : {s t u : Memory S} {asks : List (Request S)} {rs : List Reply} {a : Request S} {r : Reply} → Run same s asks rs t → Did same t a r u → Run same s (asks ++ a ∷ []) (rs ++ r ∷ []) u
   run_more none d = more d none
   run_more (more e rest) d = more e (run_more rest d)
 
   -- `replay_new` without room for the answers
-  pub none_replayed : {C : Type 0} (ask : C → Request S) (acts : List C) (fresh shelf : Shelf) (l k : Lists S) (old new : List Answer) → false ≡ leb (length acts) (length old)
-      → Replays same false (lent fresh l) (map ask acts) old new (lent shelf k) → ReplaysNew same None l (map ask acts) old new k
-  none_replayed ask acts fresh shelf l k old new e d =
+  pub none_replayed : {C : Type 0} (ask : C → Request S) (acts : List C) (fresh shelf : Shelf) (l k : Lists S) (old new : List Reply) (e f : TooFewAnswers) → false ≡ leb (length acts) (length old)
+      → Replays same (Err e) (lent fresh l) (map ask acts) old new (lent shelf k) → ReplaysNew same (Err f) l (map ask acts) old new k
+  none_replayed ask acts fresh shelf l k old new e f h d =
       let u = d.0 in
-      let short : length old < length acts = leb-false (length acts) (length old) (sym e) in
+      let short : length old < length acts = leb-false (length acts) (length old) (sym h) in
       (omega (arith, short, length-map acts ask), (λ i. record { symbols = u.symbols i; numbers = u.numbers i; work = u.work i; word = u.word i }), d.1)
 
 module _ {S : Type 0} (same : S → S → Bool) {foreign : S → Bool} (laws : KindLaws same foreign) where
   -- one call is the plain shelf's, place by place
-  pub record Fair (s : Memory S) (a : Request S) (r : Answer) (u : Memory S) : Type 0 where
+  pub record Fair (s : Memory S) (a : Request S) (r : Reply) (u : Memory S) : Type 0 where
     pub content : (q : ℕ) (k : Option (Model S)) → Holds same s.base q k → Holds same u.base q (cond (eqb q (place_of a)) (changed a r k) k)
     pub reply : (k : Option (Model S)) → Holds same s.base (place_of a) k → Says same (has s.base) (length s.work) a k s.word r u.word
     pub symbols : length u.base.symbols ≡ length s.base.symbols
     pub numbers : length u.base.numbers ≡ length s.base.numbers
     pub work : length u.work ≡ length s.work
 
-  pub fair : {s u : Memory S} {a : Request S} {r : Answer} → Did same s a r u → Fair s a r u
+  pub fair : {s u : Memory S} {a : Request S} {r : Reply} → Did same s a r u → Fair s a r u
   fair (load {s = s} {t = t} {p = p} {m = m} r d) =
       let f = load_refines same s t p m r d in
       record {
@@ -83,7 +84,7 @@ module _ {S : Type 0} (same : S → S → Bool) {foreign : S → Bool} (laws : K
         work = compares_length t s p work word work' word' r d;
       }
 
-  pub run_agrees : {s u : Memory S} {asks : List (Request S)} {rs : List Answer} → Run same s asks rs u → (plain : Plain S) → Matches same s plain → Agrees same s plain asks rs u
+  pub run_agrees : {s u : Memory S} {asks : List (Request S)} {rs : List Reply} → Run same s asks rs u → (plain : Plain S) → Matches same s plain → Agrees same s plain asks rs u
   run_agrees none plain h = record { after = plain; lives = rests; holds = h }
   run_agrees {u = u} (more {s = s} {t = t} {a = a} {asks = asks} {r = r} {rs = rs} d rest) plain h =
       let f = fair d in
@@ -102,7 +103,7 @@ module _ {S : Type 0} (same : S → S → Bool) {foreign : S → Bool} (laws : K
 
   -- `replay` after all calls, and after one call more
   module _ {C : Type 0} (ask : C → Request S) (acts : List C) where
-    pub replayed : (s t : Memory S) (old new : List Answer) (i : ℕ) → length acts ≤ i → i ≤ length acts → Run same s (map ask (take i acts)) (take i new) t
+    pub replayed : (s t : Memory S) (old new : List Reply) (i : ℕ) → length acts ≤ i → i ≤ length acts → Run same s (map ask (take i acts)) (take i new) t
         → drop (length acts) new ≡ drop (length acts) old → Replayed same s (map ask acts) old new t
     replayed s t old new i h k r e =
         let n : length (map ask acts) ≡ length acts = length-map acts ask in
@@ -111,7 +112,7 @@ module _ {S : Type 0} (same : S → S → Bool) {foreign : S → Bool} (laws : K
         subst (λ j. Run same s (map ask acts) (take j new) t) is (subst (λ l. Run same s (map ask l) (take i new) t) (take_all i acts h) r) in
         record { ran = ran; rest = subst (λ j. drop j new ≡ drop j old) (sym n) e; agrees = run_agrees ran }
 
-    pub replay_more : (s t u : Memory S) (new : List Answer) (i : ℕ) (x : C) (r : Answer) → i < length acts → i < length new → x ≡ get_or acts i x
+    pub replay_more : (s t u : Memory S) (new : List Reply) (i : ℕ) (x : C) (r : Reply) → i < length acts → i < length new → x ≡ get_or acts i x
         → Run same s (map ask (take i acts)) (take i new) t → Did same t (ask x) r u → Run same s (map ask (take (i + 1) acts)) (take (i + 1) (set new i r)) u
     replay_more s t u new i x r h k e run d =
         let asks : map ask (take (i + 1) acts) ≡ map ask (take i acts) ++ ask x ∷ [] = map_more ask acts i x h ∙ ap (λ y. map ask (take i acts) ++ ask y ∷ []) (sym e) in

@@ -1,3 +1,4 @@
+pub mod Answers
 pub mod Compares
 pub mod Runs
 pub mod Promise

@@ -5,13 +5,11 @@ use Rattle.faults.specs.declared.Fault.TheVariants.{Ambiguous}
 use Rattle.language.specs.Meaning.{Model, Formed, Competes}
 use Rattle.tables.specs.Tables.{Table}
 use Rattle.tables.specs.Laws.{SkipLaw, LimitLaw, HeldLaw, PileLaw}
-use Rattle.product.specs.declared.Compared.{Compared}
-use Rattle.product.specs.declared.Compared.TheVariants.{Included, Missed}
 use Rattle.product.specs.Compares.{LeastAstray, pairs, CompareSays}
 use Rattle.product.specs.Theorems.{IncludedExactly}
 use Rattle.shelf.specs.Calls.{Done, LoadEnds}
 use Rattle.shelf.specs.Theorems.{PlaceReaders, OneContent}
-use Rattle.comparison.specs.declared.calls.Answer.{Answer}
+use Rattle.comparison.specs.Answers.{Reply}
 use Rattle.comparison.specs.Runs.{Request, Memory, Plain, Says, Lives, Matches, RunsAgree}
 
 module _ {S : Type 0} where
@@ -28,13 +26,13 @@ module _ {S : Type 0} (same : S → S → Bool) where
   -- the plain shelf has one answer to each call, and one content of the word list after it
   abbrev pub OneAnswer : Type 0
   OneAnswer =
-      (places : ℕ → Bool) (work : ℕ) (a : Request S) (k : Option (Model S)) → FormedOf k → (word word₁ word₂ : List ℕ) (r₁ r₂ : Answer)
+      (places : ℕ → Bool) (work : ℕ) (a : Request S) (k : Option (Model S)) → FormedOf k → (word word₁ word₂ : List ℕ) (r₁ r₂ : Reply)
       → Says same places work a k word r₁ word₁ → Says same places work a k word r₂ word₂ → (r₁ ≡ r₂) × (word₁ ≡ word₂)
 
   -- and to each list of calls one list of answers, one content of the word list and one content of its places after them
   abbrev pub OneLife : Type 0
   OneLife =
-      (places : ℕ → Bool) (work : ℕ) (plain plain₁ plain₂ : Plain S) → AllFormed plain → (word word₁ word₂ : List ℕ) (asks : List (Request S)) (rs₁ rs₂ : List Answer)
+      (places : ℕ → Bool) (work : ℕ) (plain plain₁ plain₂ : Plain S) → AllFormed plain → (word word₁ word₂ : List ℕ) (asks : List (Request S)) (rs₁ rs₂ : List Reply)
       → Lives same places work plain word asks rs₁ plain₁ word₁ → Lives same places work plain word asks rs₂ plain₂ word₂ → (rs₁ ≡ rs₂) × (plain₁ ≡ plain₂) × (word₁ ≡ word₂)
 
   -- a load of a well-formed model into an existing empty place is refused as ambiguous exactly when positions compete
@@ -43,12 +41,12 @@ module _ {S : Type 0} (same : S → S → Bool) where
       (p : ℕ) (m : Model S) (r : Done) → Formed m → LoadEnds same true false p m r
       → ((x : ℕ) × (y : ℕ) × (r ≡ Err (Ambiguous x y))) ↔ ((x : ℕ) × (y : ℕ) × Competes same m x y)
 
-  -- with room in both lists, a comparison that does not say `Included` gives length and positions of the least word of the model that the reader doesn't take
+  -- with room in both lists, a comparison that does not say `Ok None` gives length and positions of the least word of the model that the reader doesn't take
   abbrev pub MissedLeast : Type 0
   MissedLeast =
-      (t : Table S) (m : Model S) (work : ℕ) (word word' : List ℕ) (r : Result Compared Fault)
-      → 2 * pairs t m ≤ work → pairs t m ≤ length word → CompareSays same t m work word r word' → (r ≢ Ok Included)
-      → (w : List ℕ) × LeastAstray t m w × (r ≡ Ok (Missed (length w))) × (word' ≡ w ++ drop (length w) word)
+      (t : Table S) (m : Model S) (work : ℕ) (word word' : List ℕ) (r : Result (Option ℕ) Fault)
+      → 2 * pairs t m ≤ work → pairs t m ≤ length word → CompareSays same t m work word r word' → (r ≢ Ok None)
+      → (w : List ℕ) × LeastAstray t m w × (r ≡ Ok (Some (length w))) × (word' ≡ w ++ drop (length w) word)
 
 module _ {S : Type 0} (same : S → S → Bool) (foreign : S → Bool) where
   pub record Promise : Type 0 where
@@ -60,7 +58,7 @@ module _ {S : Type 0} (same : S → S → Bool) (foreign : S → Bool) where
     pub formed : (s : Memory S) (plain : Plain S) → Matches same s plain → AllFormed plain
     -- a load is refused as ambiguous exactly when two marked words share a beginning and go on at different positions of one symbol
     pub ambiguous : AmbiguousExactly same
-    -- a comparison says `Included` exactly when the reader takes every word of the model, and else gives the least word that it doesn't take
+    -- a comparison says `Ok None` exactly when the reader takes every word of the model, and else gives the least word that it doesn't take
     pub included : IncludedExactly same
     pub missed : MissedLeast same
     -- a place's reader is sound, leads alike by same symbols, and takes just the words of what the place holds, with a state for each position and a start;

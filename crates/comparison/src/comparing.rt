@@ -6,13 +6,13 @@ ghost use Rattle.product.specs.Compares.{Spent};
 ghost use Rattle.comparison.specs.Compares.{Compares, CompareEnds};
 
 use faults::Fault;
-use product::{Compared, compare_tables};
+use product::compare_tables;
 use readers::Reader;
 use shelf::Shelf;
 use symbols::Symbol;
 
-/// Whether the reader takes every word of what the place holds. Where it does not, the positions of the least word that it
-/// misses go to the front of `word`. Refused where there is no such place, it is empty, or a list is too short, `work` first,
+/// How many positions the least word of what the place holds has that the reader doesn't take, if there is one: they go to
+/// the front of `word`. Refused where there is no such place, it is empty, or a list is too short, `work` first,
 /// in this order; then nothing changes. Otherwise what the work list holds is free.
 pub fn compare<S: Symbol, R: Reader<S>>(
     shelf: &Shelf,
@@ -22,19 +22,12 @@ pub fn compare<S: Symbol, R: Reader<S>>(
     reader: &R,
     work: &mut [u32],
     word: &mut [u16],
-) -> Result<Compared, Fault>
+) -> Result<Option<usize>, Fault>
     ensures refines { (k : Option (Model S)) → Holds S.Symbol.same (state shelf.now symbols.now numbers.now) place k → CompareEnds S.Symbol.same (R.Reader.table reader.now) (room (length symbols.now) (length numbers.now) place) place k (length work.old) word.old result word.new }
     ensures exact { Compares (R.Reader.table reader.now) (state shelf.now symbols.now numbers.now) place work.old word.old result work.new word.new }
     ensures spent { Spent result work.old work.new }
 {
     shelf.stand(symbols, numbers, place)?;
     let model = shelf.reader(symbols, numbers, place);
-    compare_tables(
-        model.sets,
-        model.followers,
-        model.symbols,
-        reader,
-        work,
-        word,
-    )
+    compare_tables(model.automaton, reader, work, word)
 }

@@ -7,31 +7,23 @@ ghost use Rattle.comparison.specs.Keeping.{SpoiledKeep};
 use symbols::Symbol;
 
 /// The main promise.
-pub fn main_promise<S: Symbol>() -> u8
+pub fn main_promise<S: Symbol>()
     ensures { Promise S.Symbol.same S.Symbol.foreign }
-{
-    0
-}
+{}
 
 /// After any list of calls, done or refused, each place holds what a plain shelf has there, and every answer is its answer.
-pub fn runs_agree<S: Symbol>() -> u8
+pub fn runs_agree<S: Symbol>()
     ensures { RunsAgree S.Symbol.same }
-{
-    0
-}
+{}
 
 /// A place whose cells are spared holds what the plain shelf has there, and answers as it does, whatever else is written between
 /// the calls.
-pub fn lives_agree<S: Symbol>() -> u8
+pub fn lives_agree<S: Symbol>()
     ensures { LivesAgree S.Symbol.same }
-{
-    0
-}
+{}
 
 /// Whatever the cells of a place hold, a call there is refused only by what the shelf keeps of the place and by the lengths of the
 /// lists, as the card of faults says; it writes in no other place, and nothing where it is refused.
-pub fn spoiled_keep<S: Symbol>() -> u8
+pub fn spoiled_keep<S: Symbol>()
     ensures { SpoiledKeep S.Symbol.same }
-{
-    0
-}
+{}

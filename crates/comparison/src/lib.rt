@@ -6,6 +6,6 @@ mod comparing;
 pub mod laws;
 mod replays;
 
-pub use calls::{Answer, Call};
+pub use calls::{Answer, Call, TooFewAnswers};
 pub use comparing::compare;
 pub use replays::{call, replay, replay_new};

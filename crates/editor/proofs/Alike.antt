@@ -7,11 +7,11 @@ use Rattle.symbols.specs.declared.name_rows.NameRow.{NameRow}
 use Rattle.language.specs.Meaning.{symbol_at}
 use Rattle.language.proofs.Symbols.{symbol_some, symbol_is}
 use Rattle.models.specs.declared.tables.Sets.{Sets}
-use Rattle.models.specs.Stepping.{can_end}
+use Rattle.models.specs.Stepping.{positions, can_follow, can_end}
 use Rattle.tables.specs.Tables.{Table}
 use Rattle.tables.specs.Places.{bit, sought, row_of, ending_of, place_table}
 use Rattle.walk.specs.Graph.{LabelledGraph}
-use Rattle.product.specs.Pairs.{positions, can_follow, after, product}
+use Rattle.product.specs.Pairs.{after, product}
 use Rattle.product.specs.PairsSound.{follows_parts}
 use Rattle.editor.specs.declared.matching.Namesakes.{Namesakes}
 use Rattle.editor.specs.Matching.{Marks, MarksAll, markers, meets, match_table}

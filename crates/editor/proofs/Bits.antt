@@ -2,6 +2,7 @@
 use Rattle.std.proofs.Common.{◌≡◌, ℕ, zero, suc, ◌+◌, ◌/◌, ◌%◌, ◌^◌, ◌<◌, ◌≤◌, min, Bool, true, false, cond, ◌&&◌, eqb, ltb, ◌⊎◌, Some, None, Option, sym, refl, ap, ◌∙◌, inl, inr, ⊎_elim, zero-add, arith}
 use lib.Bits.{bit_or, bit_and, and_step, and_shr}
 use lib.Count.{count_trailing_zeros, under}
+use Rattle.std.specs.Bool.{then_some}
 use Rattle.std.proofs.lemmas.Nat.{shr-shr}
 use Rattle.std.proofs.lemmas.Bool.{eq-eqb, eqb-true, cases_Bool, lt-ltb, le-ltb, cases_lt, both_ways}
 use Rattle.tables.specs.Places.{bit}
@@ -80,18 +81,15 @@ lowest_is (suc n) zero i set h = absurd (omega arith)
 lowest_is (suc n) (suc w) i set h =
     one_more n i set (count_trailing_zeros w (set / 2 ^ i / 2)) (lowest_is n w (i + 1) set (omega arith) ∙ ap (λ v. told_by (i + 1) n (count_trailing_zeros w v)) (sym (shr-shr set i 1))) (cases_Bool (bit set i))
 
-lowest_at : (n set : ℕ) → n ≤ 64 → lowest n 0 set ≡ cond (ltb (count_trailing_zeros 64 set) n) (Some (count_trailing_zeros 64 set + 1)) None
+cond_then_some : (b : Bool) (x : ℕ) → cond b (Some x) None ≡ then_some b x
+cond_then_some true x = refl
+cond_then_some false x = refl
+
+pub lowest_at : (n set : ℕ) → n ≤ 64 → lowest n 0 set ≡ then_some (ltb (count_trailing_zeros 64 set) n) (count_trailing_zeros 64 set + 1)
 lowest_at n set h =
     let z : set / 2 ^ 0 ≡ set = omega arith in
     lowest_is n 64 0 set h ∙ ap (λ v. told_by 0 n (count_trailing_zeros 64 v)) z ∙ ap (λ k. cond (ltb (count_trailing_zeros 64 set) n) (Some (k + 1)) None) (zero-add (count_trailing_zeros 64 set))
-
-pub lowest_found : (n set : ℕ) → n ≤ 64 → count_trailing_zeros 64 set < n → Some (count_trailing_zeros 64 set + 1) ≡ lowest n 0 set
-lowest_found n set h l =
-    sym (lowest_at n set h ∙ ap (λ c. cond c (Some (count_trailing_zeros 64 set + 1)) None) (lt-ltb (count_trailing_zeros 64 set) n l))
-
-pub lowest_none : (n set : ℕ) → n ≤ 64 → n ≤ count_trailing_zeros 64 set → None ≡ lowest n 0 set
-lowest_none n set h l =
-    sym (lowest_at n set h ∙ ap (λ c. cond c (Some (count_trailing_zeros 64 set + 1)) None) (le-ltb (count_trailing_zeros 64 set) n l))
+    ∙ cond_then_some (ltb (count_trailing_zeros 64 set) n) (count_trailing_zeros 64 set + 1)
 
 pub no_bits : (k : ℕ) → bit 0 k ≡ false
 no_bits k = ⊎_elim (λ h. absurd (none_bit k (eqb-true _ 1 h))) (λ h. h) (cases_Bool (bit 0 k))

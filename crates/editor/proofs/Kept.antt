@@ -34,20 +34,17 @@ module _ (t cs : List ℕ) (rs : List NameRow) (r : Counts) (cs' : List ℕ) (rs
     model = ap (λ (v : List ℕ). given v (take r.names rs')) read_codes ∙ ap (given w) read_names;
   }
 
-  pub read_few : r.names ≤ 64
-  read_few = omega (arith, d.names, d.within.few)
-
   pub read_short : r.codes ≤ 1280
   read_short = omega (arith, d.codes, room d.within.model d.within.few)
 
   -- what is kept of it, once its model is studied
-  pub kept : (sets : Sets) (old new : List ℕ) → 64 ≤ length rs' → 64 ≤ length old → Judged name_same (given (take r.codes cs') (take r.names rs')) sets old new
-      → StudiedAs t (Ok (record { names = rs'; count = r.names; followers = new; sets = sets }))
-  kept sets old new h k j =
-      let n : length (take r.names rs') ≡ r.names = omega (arith, length-take r.names rs', read_few) in (
+  pub kept : (sets : Sets) (old new : List ℕ) (few : r.names ≤ 64) → 64 ≤ length rs' → 64 ≤ length old → Judged name_same (given (take r.codes cs') (take r.names rs')) sets old new
+      → StudiedAs t (Ok (record { names = rs'; count = r.names; followers = new; sets = sets; few = few }))
+  kept sets old new few h k j =
+      let n : length (take r.names rs') ≡ r.names = omega (arith, length-take r.names rs', few) in (
         given (take r.codes cs') (take r.names rs'),
         record { text = read_text; clear = j.clear },
-        record { tables = j.tables (omega (arith, n, read_few)); count = sym n },
+        record { tables = j.tables (omega (arith, n, few)); count = sym n },
       )
 
 -- a text whose model is refused is faulty for that

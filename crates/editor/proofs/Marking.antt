@@ -1,15 +1,21 @@
 -- The positions that have a name, found one after the other. Assumes nothing.
-use Rattle.std.proofs.Common.{◌≡◌, ℕ, ◌+◌, ◌*◌, ◌%◌, ◌^◌, ◌<◌, ◌≤◌, true, false, List, length, get_or, set as write, sym, ap, ◌∙◌, subst, ⊎_elim, arith}
+use Rattle.std.proofs.Common.{◌≡◌, ℕ, ◌+◌, ◌*◌, ◌%◌, ◌^◌, ◌<◌, ◌≤◌, min, true, false, List, length, get_or, set as write, sym, ap, ◌∙◌, subst, ⊎_elim, arith}
 use lib.Bits.{bit_or}
-use Rattle.std.proofs.lemmas.List.{get_or_default, get_or-set_same, get_or-set_other}
+use Rattle.std.proofs.lemmas.List.{length-take, get_or_default, get_or-set_same, get_or-set_other}
 use Rattle.std.proofs.lemmas.Nat.{one_shl}
 use Rattle.std.proofs.lemmas.Bool.{cases_lt}
 use Rattle.symbols.specs.NameRows.{name_same}
 use Rattle.symbols.specs.declared.name_rows.NameRow.{NameRow}
 use Rattle.tables.specs.Places.{bit}
 use Rattle.editor.specs.declared.matching.Namesakes.{Namesakes}
+use Rattle.editor.specs.declared.studying.Studied.{Studied}
 use Rattle.editor.specs.Matching.{Marks}
+use Rattle.editor.specs.Tabled.{names_of}
 use Rattle.editor.proofs.Bits.{added, not_added, no_bits}
+
+-- no model has over 64 names
+pub few_names : (k : Studied) → length (names_of k) ≤ 64
+few_names k = let l : length (names_of k) ≡ min k.count (length k.names) = length-take k.count k.names in omega (arith, l, k.few)
 
 -- the first k names are told, and no bit past them is set
 pub record MarkedTo (k set : ℕ) (name : NameRow) (names : List NameRow) : Type 0 where

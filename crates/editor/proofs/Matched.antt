@@ -6,7 +6,7 @@ use Rattle.std.proofs.lemmas.Bool.{eqb-true, ne_eqb, lt-leb, cond-false}
 use Rattle.symbols.specs.NameRows.{name_same}
 use Rattle.symbols.specs.declared.name_rows.NameRow.{NameRow}
 use Rattle.models.specs.declared.tables.Sets.{Sets}
-use Rattle.tables.specs.Tables.{Alike}
+use Rattle.models.specs.Stepping.{set_after}
 use Rattle.tables.specs.Places.{bit, sought, row_of}
 use Rattle.editor.specs.declared.matching.Namesakes.{Namesakes}
 use Rattle.editor.specs.Matching.{markers, meets, match_table, lowest}
@@ -35,10 +35,6 @@ module _ (s : Sets) (rows : List ℕ) (n : ℕ) where
       ∙ sym (ap (sought meets (row_of s.first rows (min 64 n) x) a 0) (take_all 64 (markers 0 (min 64 n)) (omega arith)))
       ∙ ap (λ i. sought meets (row_of s.first rows i x) a 0 (take 64 (markers 0 (min 64 n)))) (sym w)
 
-  pub match_alike : Alike (λ (a b : Namesakes). eqb a.positions b.positions) (match_table s rows n)
-  match_alike x a b e =
-      ap (λ (p : ℕ). (match_table s rows n).goes x (record { positions = p })) (eqb-true a.positions b.positions e)
-
 -- the set of a name leads where the name does
 pub matched : (row : ℕ) (a : NameRow) (set : Namesakes) (i : ℕ) (xs : List NameRow) → ((k : ℕ) (d : NameRow) → k < length xs → bit set.positions (i + k) ≡ name_same (get_or xs k d) a)
     → sought meets row set i (markers i (length xs)) ≡ sought name_same row a i xs
@@ -50,13 +46,9 @@ matched row a set i (x ∷ xs) h =
     ap (λ b. cond (bit row i && b) (Some (i + 1)) (sought meets row set (i + 1) (markers (i + 1) (length xs)))) here
     ∙ ap (cond (bit row i && name_same x a) (Some (i + 1))) more
 
--- past the positions, or past the rows, nothing may come next
-pub no_row : (first : ℕ) (rows : List ℕ) (n x : ℕ) → (x ≡ 0 → ⊥) → (n < x) ⊎ (length rows < x) → row_of first rows n x ≡ 0
-no_row first rows n x ne h = cond-false _ _ _ (ne_eqb x 0 ne) ∙ ⊎_elim (λ l. cond-false _ _ _ (lt-leb x n l)) short h
-  where
-    short : length rows < x → cond (leb x n) (get_or rows (x - 1) 0) 0 ≡ 0
-    short l = ap (λ r. cond (leb x n) r 0) (get_or_past rows (x - 1) 0 (omega arith)) ∙ both (leb x n)
-      where
-        both : (b : Bool) → ◌≡◌ {A = ℕ} (cond b 0 0) 0
-        both true = refl
-        both false = refl
+-- what may come after a state is the row of the state
+pub after_row : (s : Sets) (rows : List ℕ) (n x : ℕ) → set_after s rows n x ≡ row_of s.first rows n x
+after_row s rows n zero = refl
+after_row s rows n (suc x) =
+    let e : suc x - 1 ≡ x = omega arith in
+    sym (cond-false (eqb (suc x) 0) _ _ (ne_eqb (suc x) 0 (λ z. omega arith)) ∙ ap (λ i. cond (leb (suc x) n) (get_or rows i 0) 0) e)

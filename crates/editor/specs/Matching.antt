@@ -1,12 +1,12 @@
 -- Names matched beforehand: the positions that have a name, and a reader that is given them. Assumes nothing.
 use Rattle.std.specs.Prelude.{◌≡◌, ℕ, zero, suc, ◌+◌, ◌<◌, min, Bool, false, cond, List, [], ◌∷◌, length, get_or, Some, None, Option, nat_eq, slice_index_or, refl}
-use Rattle.std.proofs.Common.{sym, ◌∙◌}
+use Rattle.std.proofs.Common.{sym, ap, ◌∙◌}
 use Rattle.std.proofs.lemmas.Bool.{eq-eqb, eqb-true}
 use Rattle.symbols.specs.Kinds.{KindLaws}
 use Rattle.symbols.specs.NameRows.{name_same}
 use Rattle.symbols.specs.declared.name_rows.NameRow.{NameRow}
 use Rattle.models.specs.declared.tables.Sets.{Sets}
-use Rattle.tables.specs.Tables.{Table}
+use Rattle.tables.specs.Tables.{Table, Alike}
 use Rattle.tables.specs.Places.{bit, place_table}
 use Rattle.editor.specs.declared.matching.Namesakes.{Namesakes}
 
@@ -39,6 +39,10 @@ meets marker set = bit set.positions marker.positions
 -- the table of a reader by the positions that a name has: that of a place of n positions, but that a set is asked and not a name
 abbrev pub match_table : Sets → List ℕ → ℕ → Table Namesakes
 match_table s rows n = place_table meets (markers 0 (min 64 n)) rows s.first s.last s.nullable
+
+-- the same sets of positions lead alike
+pub match_alike : (s : Sets) (rows : List ℕ) (n : ℕ) → Alike (λ (a b : Namesakes). nat_eq a.positions b.positions) (match_table s rows n)
+match_alike s rows n x a b e = ap (λ (p : ℕ). (match_table s rows n).goes x (record { positions = p })) (eqb-true a.positions b.positions e)
 
 -- the position of the first bit of the set from i on, of n bits
 abbrev pub lowest : ℕ → ℕ → ℕ → Option ℕ

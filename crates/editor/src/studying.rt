@@ -1,5 +1,5 @@
 // A text as a model with its tables.
-ghost use Rattle.editor.specs.Tabled.{StudiedAs};
+ghost use Rattle.std.specs.Prelude.{◌≡◌, ◌≤◌};
 
 use faults::Fault;
 use models::study;
@@ -10,31 +10,41 @@ use text_reader::{MOST_CODES, MOST_NAMES, read};
 /// What is kept of a text that gives a model: a row for each name, the followers of each, and the sets of the model.
 #[derive(Clone, Copy)]
 pub struct Studied {
+    // `Studied` is Copy, which an ArrayVec is not; and its arrays are lent to the reader of text and to `study`, which write into lent lists.
     pub names: [NameRow; MOST_NAMES],
     /// How many cells of `names` are in use.
     pub count: usize,
     pub followers: [u64; MOST_NAMES],
     pub sets: Sets,
+    ghost few: { count ≤ 64 },
 }
 
-/// Reads a text and studies its model.
-pub(crate) fn study_text(text: &[u8]) -> Result<Studied, Fault>
-    ensures { StudiedAs text.now result }
-{
-    let mut codes = [0; MOST_CODES];
-    let mut names = [NameRow {
-        bytes: [0; 32],
-        len: 0,
-    }; MOST_NAMES];
-    let counts = read(text, &mut codes, &mut names)?;
-    let used = counts.codes;
-    let count = counts.names;
-    let mut followers = [0; MOST_NAMES];
-    let sets = study(&codes[0..used], &names[0..count], &mut followers)?;
-    Ok(Studied {
-        names,
-        count,
-        followers,
-        sets,
-    })
+impl Studied {
+    ghost use Rattle.editor.specs.Tabled.{names_of, StudiedAs};
+
+    /// Reads a text and studies its model.
+    pub(crate) fn of(text: &[u8]) -> Result<Studied, Fault>
+        ensures { StudiedAs text.now result }
+    {
+        let mut codes = [0; MOST_CODES];
+        let mut names = [NameRow::default(); MOST_NAMES];
+        let counts = read(text, &mut codes, &mut names)?;
+        let used = counts.codes;
+        let count = counts.names;
+        let mut followers = [0; MOST_NAMES];
+        let sets = study(&codes[..used], &names[..count], &mut followers)?;
+        Ok(Studied {
+            names,
+            count,
+            followers,
+            sets,
+        })
+    }
+
+    /// The names of the model.
+    pub(crate) fn names(&self) -> &[NameRow]
+        ensures { result.now ≡ names_of self.now }
+    {
+        &self.names[..self.count]
+    }
 }

@@ -3,7 +3,7 @@
 
 ghost use Rattle.std.specs.Prelude.{◌≡◌};
 ghost use Rattle.faults.specs.Card.{number};
-ghost use Rattle.editor_text.specs.Calls.{names_of, ReadCall, WriteCall, OneRead, OneWrite};
+ghost use Rattle.editor_text.specs.Calls.{both, names_of, ReadCall, WriteCall, OneRead, OneWrite};
 
 use faults::{Fault, Values};
 use symbols::name_rows::NameRow;
@@ -11,6 +11,7 @@ use text_reader::read;
 use text_writer::write;
 
 /// What a call tells beside its number: the counts or the length where it is done, and otherwise what the fault names.
+// Two numbers, since C reads them.
 #[derive(Clone, Copy)]
 #[repr(C)]
 pub struct Told {
@@ -18,15 +19,25 @@ pub struct Told {
     pub second: usize,
 }
 
-/// The number of a fault. What the fault names is told; where that is one value, the second is 0.
+impl From<Values> for Told {
+    ghost from_gives = { λ values told. told ≡ both values };
+
+    /// Where there is one value, the second is 0.
+    fn from(values: Values) -> Told {
+        match values {
+            Values::One(first) => Told { first, second: 0 },
+            Values::Two(first, second) => Told { first, second },
+        }
+    }
+}
+
+/// The number of a fault. What the fault names is told.
+// The number itself, since C reads it.
 fn refuse(fault: Fault, told: &mut Told) -> u8
     ensures number { result ≡ number fault }
     ensures names { told.new ≡ names_of fault }
 {
-    *told = match fault.values() {
-        Values::One(first) => Told { first, second: 0 },
-        Values::Two(first, second) => Told { first, second },
-    };
+    *told = fault.values().into();
     fault.number()
 }
 
@@ -77,8 +88,6 @@ pub extern "C" fn fomurindu_write(
 }
 
 /// Each call has one number, tells one thing, and leaves one content of its lists.
-pub fn one_answer() -> u8
+pub fn one_answer()
     ensures { (OneRead) × (OneWrite) }
-{
-    0
-}
+{}

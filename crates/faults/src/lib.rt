@@ -5,6 +5,7 @@ ghost use Rattle.std.specs.Prelude.{◌≡◌, Some};
 ghost use Rattle.faults.specs.Card.{number, layer, values};
 ghost use Rattle.faults.specs.Shown.{layer_shown, values_shown, numbered_shown, fault_shown};
 
+use std::error::Error;
 use std::fmt;
 
 /// The part of the program that a fault belongs to.
@@ -64,6 +65,7 @@ pub enum Fault {
 
 impl Fault {
     /// The fault's number on the card.
+    // A number, since the card gives each fault one, which is printed.
     pub fn number(&self) -> u8
         ensures { result ≡ number self.now }
     {
@@ -90,21 +92,17 @@ impl Fault {
     pub fn layer(&self) -> Layer
         ensures { result ≡ layer self.now }
     {
-        match self {
-            Fault::StrangeByte { .. } => Layer::Text,
-            Fault::Unexpected { .. } => Layer::Text,
-            Fault::LongName { .. } => Layer::Text,
-            Fault::TooDeep { .. } => Layer::Text,
-            Fault::TooLarge { layer, .. } => *layer,
-            Fault::Malformed { .. } => Layer::Model,
-            Fault::Ambiguous { .. } => Layer::Model,
-            Fault::NoPlace { .. } => Layer::Shelf,
-            Fault::Taken { .. } => Layer::Shelf,
-            Fault::Vacant { .. } => Layer::Shelf,
-            Fault::ShortList { layer, .. } => *layer,
+        match *self {
+            Fault::StrangeByte { .. }
+            | Fault::Unexpected { .. }
+            | Fault::LongName { .. }
+            | Fault::TooDeep { .. }
+            | Fault::Unwritable { .. } => Layer::Text,
+            Fault::TooLarge { layer, .. } | Fault::ShortList { layer, .. } => layer,
+            Fault::Malformed { .. } | Fault::Ambiguous { .. } => Layer::Model,
+            Fault::NoPlace { .. } | Fault::Taken { .. } | Fault::Vacant { .. } => Layer::Shelf,
             Fault::Unfit { .. } => Layer::Reader,
             Fault::WrongBook { .. } => Layer::Book,
-            Fault::Unwritable { .. } => Layer::Text,
             Fault::WrongCue { .. } => Layer::Cue,
         }
     }
@@ -113,22 +111,22 @@ impl Fault {
     pub fn values(&self) -> Values
         ensures { result ≡ values self.now }
     {
-        match self {
-            Fault::StrangeByte { at } => Values::One(*at),
-            Fault::Unexpected { at } => Values::One(*at),
-            Fault::LongName { at } => Values::One(*at),
-            Fault::TooDeep { at } => Values::One(*at),
-            Fault::TooLarge { limit, .. } => Values::One(*limit),
-            Fault::Malformed { at } => Values::One(*at),
-            Fault::Ambiguous { first, second } => Values::Two(*first, *second),
-            Fault::NoPlace { place } => Values::One(*place),
-            Fault::Taken { place } => Values::One(*place),
-            Fault::Vacant { place } => Values::One(*place),
-            Fault::ShortList { cells, .. } => Values::One(*cells),
-            Fault::Unfit { greatest } => Values::One(*greatest),
-            Fault::WrongBook { entry } => Values::One(*entry),
-            Fault::Unwritable { index } => Values::One(*index),
-            Fault::WrongCue { byte } => Values::One(*byte),
+        match *self {
+            Fault::Ambiguous { first, second } => Values::Two(first, second),
+            Fault::StrangeByte { at: value }
+            | Fault::Unexpected { at: value }
+            | Fault::LongName { at: value }
+            | Fault::TooDeep { at: value }
+            | Fault::TooLarge { limit: value, .. }
+            | Fault::Malformed { at: value }
+            | Fault::NoPlace { place: value }
+            | Fault::Taken { place: value }
+            | Fault::Vacant { place: value }
+            | Fault::ShortList { cells: value, .. }
+            | Fault::Unfit { greatest: value }
+            | Fault::WrongBook { entry: value }
+            | Fault::Unwritable { index: value }
+            | Fault::WrongCue { byte: value } => Values::One(value),
         }
     }
 }
@@ -137,7 +135,7 @@ impl fmt::Display for Layer {
     ghost output = { λ l. Some (layer_shown l) };
 
     fn fmt<W: fmt::Write>(&self, f: &mut fmt::Formatter<W>) -> fmt::Result {
-        let word = match self {
+        f.write_str(match self {
             Layer::Text => "text",
             Layer::Model => "model",
             Layer::Shelf => "shelf",
@@ -146,8 +144,7 @@ impl fmt::Display for Layer {
             Layer::Reader => "reader",
             Layer::Book => "book",
             Layer::Cue => "cue",
-        };
-        f.write_str(word)
+        })
     }
 }
 
@@ -170,9 +167,7 @@ impl fmt::Display for Numbered {
     ghost output = { λ n. Some (numbered_shown n.0) };
 
     fn fmt<W: fmt::Write>(&self, f: &mut fmt::Formatter<W>) -> fmt::Result {
-        let number = self.0.number();
-        let values = self.0.values();
-        write!(f, "{number} at {values}")
+        write!(f, "{} at {}", self.0.number(), self.0.values())
     }
 }
 
@@ -180,8 +175,8 @@ impl fmt::Display for Fault {
     ghost output = { λ x. Some (fault_shown x) };
 
     fn fmt<W: fmt::Write>(&self, f: &mut fmt::Formatter<W>) -> fmt::Result {
-        let layer = self.layer();
-        let numbered = Numbered(*self);
-        write!(f, "{layer} {numbered}")
+        write!(f, "{} {}", self.layer(), Numbered(*self))
     }
 }
+
+impl Error for Fault {}

@@ -1,10 +1,15 @@
 // Content specifications by the productions of XML 1.0, and what holds of each text that is one.
 #![tactic(auto)]
 
+ghost use Rattle.std.specs.Prelude.{◌≡◌};
+ghost use Rattle.codes.specs.Code.{code_number};
+ghost use Rattle.grammar.specs.Grammar.{sign, code};
 ghost use Rattle.grammar.specs.Theorems.{OneReading, CodesFit, GivesTree, GivesNames, OneOutcome};
 
+use codes::Code;
+
 /// Which sign joins the particles of a group.
-#[derive(Clone, Copy)]
+#[derive(Clone, Copy, Debug, PartialEq, Eq)]
 pub enum Chain {
     /// `|`
     Choice,
@@ -12,37 +17,50 @@ pub enum Chain {
     Seq,
 }
 
-/// A text has at most one list of codes and one of names, whatever the limits.
-pub fn one_reading() -> u8
-    ensures { OneReading }
-{
-    0
+impl Chain {
+    /// The byte of the sign.
+    pub fn sign(self) -> u8
+        ensures { result ≡ sign self }
+    {
+        match self {
+            Chain::Choice => b'|',
+            Chain::Seq => b',',
+        }
+    }
 }
+
+impl From<Chain> for Code {
+    ghost from_gives = { λ chain joined. code_number joined ≡ code chain };
+
+    fn from(chain: Chain) -> Code {
+        match chain {
+            Chain::Choice => Code::Either,
+            Chain::Seq => Code::Then,
+        }
+    }
+}
+
+/// A text has at most one list of codes and one of names, whatever the limits.
+pub fn one_reading()
+    ensures { OneReading }
+{}
 
 /// A model with at most 16 levels and 64 names has at most 1,280 codes.
-pub fn codes_fit() -> u8
+pub fn codes_fit()
     ensures { CodesFit }
-{
-    0
-}
+{}
 
 /// The codes and the names of a model are those of a tree, which is the empty word alone or has none.
-pub fn gives_tree() -> u8
+pub fn gives_tree()
     ensures { GivesTree }
-{
-    0
-}
+{}
 
 /// Where no name of a model has over 32 bytes, each is a name.
-pub fn gives_names() -> u8
+pub fn gives_names()
     ensures { GivesNames }
-{
-    0
-}
+{}
 
 /// The rules of reading give a text at most one outcome.
-pub fn one_outcome() -> u8
+pub fn one_outcome()
     ensures { OneOutcome }
-{
-    0
-}
+{}

@@ -2,57 +2,57 @@
 #![tactic(auto)]
 
 mod explain;
-mod report;
+mod positions;
 
 use book::reading::Book;
-use explain::explain;
+use explain::Explanation;
 use faults::Numbered;
-use report::Report;
-use std::env;
 use std::io::{Read, Write};
 use std::process::ExitCode;
+use std::{env, io};
 
 const USAGE: &str =
     "usage: inspect < BOOK   explains each model of a book that is read from standard input";
 
-/// Explains the bodies of a book up to its first fault, which ends the report; tells whether there was none.
-fn report_book(report: &mut Report, bytes: &[u8]) -> anyhow::Result<bool> {
+// The texts of a refusal are those that slip prints, on which this program does not stand.
+/// Writes what each body of a book means up to the first fault, which ends the report and gives the status of a failure.
+fn report(out: &mut impl Write, bytes: &[u8]) -> io::Result<ExitCode> {
     let book = match Book::read(bytes) {
         Ok(book) => book,
         Err(fault) => {
-            let numbered = Numbered(fault);
-            report.line(format!(in report.heap(); "book: {numbered}")?.as_str())?;
-            return Ok(false);
+            writeln!(out, "book: {}", Numbered(fault))?;
+            return Ok(ExitCode::FAILURE);
         }
     };
-    for k in 0..book.count() {
-        if let Some(text) = book.body(k) {
-            if let Err(fault) = explain(report, k, text)? {
-                report.line(format!(in report.heap(); "body {k}: {fault}")?.as_str())?;
-                return Ok(false);
+    for (k, body) in (0..book.count()).map_while(|k| book.body(k)).enumerate() {
+        match Explanation::of(body) {
+            Ok(explanation) => {
+                write!(out, "body {k}: ")?;
+                explanation.write_to(out)?;
+            }
+            Err(fault) => {
+                writeln!(out, "body {k}: {fault}")?;
+                return Ok(ExitCode::FAILURE);
             }
         }
     }
-    Ok(true)
+    Ok(ExitCode::SUCCESS)
 }
 
-fn run(rt: &HostRuntime) -> anyhow::Result<bool> {
+fn run(rt: &HostRuntime) -> anyhow::Result<ExitCode> {
     let mut input = Vec::new(rt.alloc());
     rt.stdin().read_to_end(&mut input)?;
-    let mut report = Report::new(rt.alloc());
-    let whole = report_book(&mut report, input.as_slice())?;
-    rt.stdout().write_all(report.bytes())?;
-    Ok(whole)
+    let mut out = Vec::new(rt.alloc());
+    let status = report(&mut out, &input)?;
+    rt.stdout().write_all(&out)?;
+    Ok(status)
 }
 
+// These lines stand in each program that takes no argument: a crate for them would be no plainer.
 fn main(rt: HostRuntime) -> anyhow::Result<ExitCode> {
     if env::args(&rt)?.count() > 1 {
         println!(rt; "{USAGE}")?;
         return Ok(ExitCode::FAILURE);
     }
-    if run(&rt)? {
-        Ok(ExitCode::SUCCESS)
-    } else {
-        Ok(ExitCode::FAILURE)
-    }
+    run(&rt)
 }

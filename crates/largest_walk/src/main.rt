@@ -4,8 +4,8 @@
 ghost use Rattle.std.specs.Prelude.{◌≡◌, ℕ, ◌+◌, ◌%◌, ◌<◌, ◌≤◌, length, ◌≢◌, slice_index};
 ghost use Rattle.largest_walk.specs.Shapes.{tree, tree_sound, line, line_sound};
 
-use std::io;
-use walk::{Graph, least_word};
+use std::{fmt, io};
+use walk::{Graph, Shortage, least_word};
 
 const NODES: usize = 266_305;
 
@@ -36,11 +36,7 @@ impl Graph for Tree {
     }
 
     fn step(&self, node: u32, label: u32) -> Option<u32> {
-        if 0 < label && label < 65 && node < 4_161 {
-            Some(64 * node + label)
-        } else {
-            None
-        }
+        ((1..65).contains(&label) && node < 4_161).then(|| 64 * node + label)
     }
 
     fn is_wanted(&self, node: u32) -> bool {
@@ -50,6 +46,7 @@ impl Graph for Tree {
 
 /// All nodes in a line: the one edge from the node n leads to n + 1, by the label n mod 64 + 1.
 /// So the word of the last node has 266,304 labels, and the label at its place k, from 0 on, is k mod 64 + 1.
+// Beside the tree in an impl of its own: the meaning of a graph goes with its type.
 struct Line;
 
 impl Graph for Line {
@@ -70,11 +67,7 @@ impl Graph for Line {
     }
 
     fn step(&self, node: u32, label: u32) -> Option<u32> {
-        if node < LAST && label == node % 64 + 1 {
-            Some(node + 1)
-        } else {
-            None
-        }
+        (node < LAST && label == node % 64 + 1).then(|| node + 1)
     }
 
     fn is_wanted(&self, node: u32) -> bool {
@@ -88,22 +81,35 @@ fn in_turn(word: &[u16]) -> usize
     ensures turns { (k : ℕ) → k < result → slice_index word.now k ≡ k % 64 + 1 }
     ensures ends { result < length word.now → slice_index word.now result ≢ result % 64 + 1 }
 {
-    for (k, label) in word.iter().enumerate() {
-        if *label as usize != k % 64 + 1 {
-            return k;
+    word.iter()
+        .enumerate()
+        .position(|(k, label)| usize::from(*label) != k % 64 + 1)
+        .unwrap_or(word.len())
+}
+
+/// What a search answered, in the form in which it is printed.
+// No derived `Debug`: the printed text is settled, and names what is found.
+#[derive(Drop)]
+struct Answer(Result<Option<usize>, Shortage>);
+
+impl fmt::Display for Answer {
+    fn fmt<W: fmt::Write>(&self, f: &mut fmt::Formatter<W>) -> fmt::Result {
+        match self.0 {
+            Ok(None) => f.write_str("Ok(Absent)"),
+            Ok(Some(length)) => write!(f, "Ok(Found {{ length: {length} }})"),
+            Err(shortage) => write!(f, "Err({shortage:?})"),
         }
     }
-    word.len()
 }
 
 fn main(rt: HostRuntime) -> io::Result<()> {
-    let mut work: Vec<u32> = vec![in rt.alloc(); 0; 532_610]?;
-    let mut word: Vec<u16> = vec![in rt.alloc(); 0; 266_305]?;
-    let tree = least_word(&Tree, &mut work, &mut word);
+    let mut work: Vec<u32> = vec![in rt.alloc(); 0; 2 * NODES]?;
+    let mut word: Vec<u16> = vec![in rt.alloc(); 0; NODES]?;
+    let tree = Answer(least_word(&Tree, &mut work, &mut word));
     println!(rt;
-        "tree: {tree:?}, beginning {} {} {} {}",
+        "tree: {tree}, beginning {} {} {} {}",
         word[0], word[1], word[2], word[3]
     )?;
-    let line = least_word(&Line, &mut work, &mut word);
-    println!(rt; "line: {line:?}, {} labels in turn", in_turn(&word))
+    let line = Answer(least_word(&Line, &mut work, &mut word));
+    println!(rt; "line: {line}, {} labels in turn", in_turn(&word))
 }

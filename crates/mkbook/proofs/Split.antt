@@ -1,61 +1,90 @@
--- The lines of an input, found one after the other. Assumes nothing.
-use Rattle.std.proofs.Common.{◌≡◌, ℕ, ◌+◌, ◌-◌, ◌<◌, ◌≤◌, cond, eqb, List, [], ◌∷◌, ◌++◌, length, get_or, take, drop, sym, refl, ap, ◌∙◌, arith, Bor}
-use Rattle.std.specs.List.{between}
-use Rattle.std.proofs.lemmas.List.{append_assoc, append-nil, map-append, at_drop_more, at_drop_all}
-use Rattle.std.proofs.lemmas.List.Edits.{between_more}
-use Rattle.std.proofs.lemmas.Bool.{cond-true, cond-false, eq-eqb, ne_eqb}
+-- The lines of an input are the parts that its line feeds cut it into. Assumes nothing.
+use Rattle.std.proofs.Common.{◌≡◌, ℕ, ◌-◌, ◌<◌, cond, eqb, Bool, true, false, List, [], ◌∷◌, ◌++◌, map, length, take, suc, Bor, Option, None, Some, IfSome, sym, refl, ap, ◌∙◌, subst, arith}
+use Rattle.std.specs.List.{slice_get, slice_split, onto_first}
+use Rattle.std.specs.Option.{option_copied}
 use Rattle.book.specs.Makings.{contents}
+use Rattle.std.proofs.lemmas.List.{append_assoc, append-nil}
+use Rattle.std.proofs.lemmas.Bool.{cond-true, cond-false, eq-eqb, ne_eqb}
 use Rattle.mkbook.specs.Lines.{without_return, lines_after, lines_of}
 
-pub no_return : (line : List ℕ) → length line < 1 → line ≡ without_return line
-no_return [] h = refl
-no_return (b ∷ more) h = absurd (omega arith)
+-- the parts, of which the first has begun
+abbrev begun_with : List ℕ → List (List ℕ) → List (List ℕ)
+begun_with begun [] = begun ∷ []
+begun_with begun (part ∷ parts) = (begun ++ part) ∷ parts
 
--- the lines found so far, and those that are left, are the lines of the input
-abbrev pub Found : List ℕ → List (Bor (List ℕ)) → ℕ → ℕ → Type 0
-Found input lines start i = contents lines ++ lines_after (between start i input) (drop i input) ≡ lines_of input
+-- without the last where it is empty
+abbrev pub kept : List (List ℕ) → List (List ℕ)
+kept [] = []
+kept (x ∷ []) = cond (eqb (length x) 0) [] (x ∷ [])
+kept (x ∷ (y ∷ more)) = x ∷ kept (y ∷ more)
 
-module _ (input : List ℕ) (lines : List (Bor (List ℕ))) (start i : ℕ) (f : Found input lines start i) where
-  module _ (inside : i < length input) where
-    left : lines_after (between start i input) (drop i input) ≡ lines_after (between start i input) (get_or input i 0 ∷ drop (i + 1) input)
-    left = at_drop_more (lines_after (between start i input)) input i 0 inside
+abbrev pub is_feed : ℕ → Bool
+is_feed b = eqb b 10
 
-    pub found_more : start ≤ i → (get_or input i 0 ≡ 10 → ⊥) → Found input lines start (i + 1)
-    found_more low n =
-        sym (ap (λ (w : List (List ℕ)). contents lines ++ w)
-        (left
-        ∙ cond-false (eqb (get_or input i 0) 10) (without_return (between start i input) ∷ lines_after [] (drop (i + 1) input)) (lines_after (between start i input ++ get_or input i 0 ∷ []) (drop (i + 1) input)) (ne_eqb (get_or input i 0) 10 n)
-        ∙ ap (λ (w : List ℕ). lines_after w (drop (i + 1) input)) (sym (between_more input start i 0 low inside))))
-        ∙ f
+abbrev trimmed : List (List ℕ) → List (List ℕ)
+trimmed parts = map without_return parts
 
-    pub found_line : (line : Bor (List ℕ)) (after : List (Bor (List ℕ))) → after ≡ lines ++ line ∷ [] → line.now ≡ without_return (between start i input) → get_or input i 0 ≡ 10 → Found input after (i + 1) (i + 1)
-    found_line line after e w n =
-        let zero-long : i + 1 - (i + 1) ≡ 0 = omega arith in
-        ap (λ (m : ℕ). contents after ++ lines_after (take m (drop (i + 1) input)) (drop (i + 1) input)) zero-long
-        ∙ ap (λ (v : List (Bor (List ℕ))). contents v ++ lines_after [] (drop (i + 1) input)) e
-        ∙ ap (λ (v : List (List ℕ)). v ++ lines_after [] (drop (i + 1) input)) (map-append (λ (s : Bor (List ℕ)). s.now) lines (line ∷ []))
-        ∙ append_assoc (contents lines) (line.now ∷ []) (lines_after [] (drop (i + 1) input))
-        ∙ ap (λ (v : List ℕ). contents lines ++ v ∷ lines_after [] (drop (i + 1) input)) w
-        ∙ sym (ap (λ (v : List (List ℕ)). contents lines ++ v)
-        (left
-        ∙ cond-true (eqb (get_or input i 0) 10) (without_return (between start i input) ∷ lines_after [] (drop (i + 1) input)) (lines_after (between start i input ++ get_or input i 0 ∷ []) (drop (i + 1) input)) (eq-eqb (get_or input i 0) 10 n)))
-        ∙ f
+first_kept : (begun : List ℕ) (parts : List (List ℕ)) → kept (trimmed ((begun ++ []) ∷ begun_with [] parts)) ≡ without_return begun ∷ kept (trimmed (begun_with [] parts))
+first_kept begun [] = ap (λ (w : List ℕ). without_return w ∷ kept (trimmed (begun_with [] []))) (append-nil begun)
+first_kept begun (p ∷ parts) = ap (λ (w : List ℕ). without_return w ∷ kept (trimmed (begun_with [] (p ∷ parts)))) (append-nil begun)
 
-  module _ (all : length input ≤ i) (last : List ℕ) (w : last ≡ without_return (between start i input)) where
-    ended : contents lines ++ cond (eqb (length (without_return (between start i input))) 0) [] (without_return (between start i input) ∷ []) ≡ lines_of input
-    ended = sym (ap (λ (v : List (List ℕ)). contents lines ++ v) (at_drop_all (lines_after (between start i input)) input i all)) ∙ f
+split_some : (input : List ℕ) → begun_with [] (slice_split is_feed input) ≡ slice_split is_feed input
+split_some [] = refl
+split_some (b ∷ more) = some (is_feed b) (slice_split is_feed more)
+  where
+    some : (yes : Bool) (parts : List (List ℕ)) → begun_with [] (cond yes ([] ∷ parts) (onto_first b parts)) ≡ cond yes ([] ∷ parts) (onto_first b parts)
+    some true parts = refl
+    some false [] = refl
+    some false (p ∷ parts) = refl
 
-    pub found_none : length last ≡ 0 → contents lines ≡ lines_of input
-    found_none n =
-        sym (append-nil (contents lines))
-        ∙ sym (ap (λ (v : List (List ℕ)). contents lines ++ v) (cond-true (eqb (length (without_return (between start i input))) 0) [] (without_return (between start i input) ∷ []) (eq-eqb _ 0 (sym (ap length w) ∙ n))))
-        ∙ ended
+begun_onto : (begun : List ℕ) (b : ℕ) (parts : List (List ℕ)) → begun_with begun (onto_first b parts) ≡ begun_with (begun ++ b ∷ []) parts
+begun_onto begun b [] = refl
+begun_onto begun b (p ∷ parts) = ap (λ (w : List ℕ). w ∷ parts) (sym (append_assoc begun (b ∷ []) p))
 
-    pub found_last : (line : Bor (List ℕ)) (after : List (Bor (List ℕ))) → after ≡ lines ++ line ∷ [] → line.now ≡ last → 0 < length last → contents after ≡ lines_of input
-    found_last line after e v n =
-        let some : length (without_return (between start i input)) ≡ 0 → ⊥ = λ z. omega (arith, ap length w) in
-        ap contents e
-        ∙ map-append (λ (s : Bor (List ℕ)). s.now) lines (line ∷ [])
-        ∙ ap (λ (u : List ℕ). contents lines ++ u ∷ []) (v ∙ w)
-        ∙ sym (ap (λ (u : List (List ℕ)). contents lines ++ u) (cond-false (eqb (length (without_return (between start i input))) 0) [] (without_return (between start i input) ∷ []) (ne_eqb _ 0 some)))
-        ∙ ended
+kept_parts : (begun input : List ℕ) → lines_after begun input ≡ kept (trimmed (begun_with begun (slice_split is_feed input)))
+kept_parts begun [] = ap (λ (w : List ℕ). kept (without_return w ∷ [])) (sym (append-nil begun))
+kept_parts begun (b ∷ more) = step (is_feed b) (kept_parts [] more) (kept_parts (begun ++ b ∷ []) more)
+  where
+    parts : List (List ℕ)
+    parts = slice_split is_feed more
+
+    step : (yes : Bool) → lines_after [] more ≡ kept (trimmed (begun_with [] parts)) → lines_after (begun ++ b ∷ []) more ≡ kept (trimmed (begun_with (begun ++ b ∷ []) parts)) → cond yes (without_return begun ∷ lines_after [] more) (lines_after (begun ++ b ∷ []) more) ≡ kept (trimmed (begun_with begun (cond yes ([] ∷ parts) (onto_first b parts))))
+    step true e f =
+        ap (λ (w : List (List ℕ)). without_return begun ∷ w) e
+        ∙ sym (first_kept begun parts)
+        ∙ ap (λ (w : List (List ℕ)). kept (trimmed ((begun ++ []) ∷ w))) (split_some more)
+    step false e f = f ∙ ap (λ (w : List (List ℕ)). kept (trimmed w)) (sym (begun_onto begun b parts))
+
+pub lines_kept : (input : List ℕ) → lines_of input ≡ kept (map without_return (slice_split is_feed input))
+lines_kept input = kept_parts [] input ∙ ap (λ (w : List (List ℕ)). kept (trimmed w)) (split_some input)
+
+-- a line, as a vector holds it
+abbrev pub Line : Type 0
+Line = Bor (List ℕ)
+
+copied : (P : Line → Type 0) (r : Option (Bor Line)) → IfSome r (λ x. P x.now) → IfSome (option_copied r) P
+copied P None h = h
+copied P (Some last) h = h
+
+kept_lines : (lines : List Line) → IfSome (slice_get lines (length lines - 1)) (λ x. 0 < length x.now) → kept (contents lines) ≡ contents lines
+kept_lines [] h = refl
+kept_lines (x ∷ []) h = cond-false (eqb (length x.now) 0) [] (x.now ∷ []) (ne_eqb _ 0 (λ z. omega arith))
+kept_lines (x ∷ (y ∷ more)) h =
+    let e : suc (suc (length more)) - 1 ≡ suc (suc (length more) - 1) = omega arith in
+    ap (λ (w : List (List ℕ)). x.now ∷ w) (kept_lines (y ∷ more) (subst (λ (k : ℕ). IfSome (slice_get (x ∷ (y ∷ more)) k) (λ (l : Line). 0 < length l.now)) e h))
+
+kept_others : (lines : List Line) → IfSome (slice_get lines (length lines - 1)) (λ x. length x.now ≡ 0) → kept (contents lines) ≡ contents (take (length lines - 1) lines)
+kept_others [] h = refl
+kept_others (x ∷ []) h = cond-true (eqb (length x.now) 0) [] (x.now ∷ []) (eq-eqb _ 0 h)
+kept_others (x ∷ (y ∷ more)) h =
+    let e : suc (suc (length more)) - 1 ≡ suc (suc (length more) - 1) = omega arith in
+    ap (λ (w : List (List ℕ)). x.now ∷ w) (kept_others (y ∷ more) (subst (λ (k : ℕ). IfSome (slice_get (x ∷ (y ∷ more)) k) (λ (l : Line). length l.now ≡ 0)) e h))
+    ∙ ap (λ (k : ℕ). contents (take k (x ∷ (y ∷ more)))) (sym e)
+
+-- with r the last line, where there is one
+module _ (lines : List Line) (r : Option (Bor Line)) (e : option_copied r ≡ slice_get lines (length lines - 1)) where
+  pub kept_all : IfSome r (λ x. 0 < length x.now.now) → kept (contents lines) ≡ contents lines
+  kept_all h = kept_lines lines (subst (λ (o : Option Line). IfSome o (λ (l : Line). 0 < length l.now)) e (copied (λ (l : Line). 0 < length l.now) r h))
+
+  pub kept_front : IfSome r (λ x. length x.now.now ≡ 0) → kept (contents lines) ≡ contents (take (length lines - 1) lines)
+  kept_front h = kept_others lines (subst (λ (o : Option Line). IfSome o (λ (l : Line). length l.now ≡ 0)) e (copied (λ (l : Line). length l.now ≡ 0) r h))

@@ -17,39 +17,31 @@ const USAGE: &str =
 /// Writes the book of the texts on standard output.
 fn write_book(rt: &HostRuntime, texts: &[&[u8]]) -> anyhow::Result<()> {
     let mut out = [0; MOST_BYTES];
-    match make(texts, &mut out) {
-        Ok(size) => {
-            rt.stdout().write_all(&out[0..size])?;
-            Ok(())
-        }
-        Err(fault) => Err(anyhow!(format!(in rt.alloc(); "{fault}")?)),
-    }
+    let size = make(texts, &mut out)?;
+    rt.stdout().write_all(&out[..size])?;
+    Ok(())
 }
 
 fn run(rt: &HostRuntime) -> anyhow::Result<()> {
-    let mut words = Vec::new(rt.alloc());
-    for word in env::args(rt)?.skip(1) {
-        words.push(word)?;
-    }
+    let words: Vec<String> = env::args(rt)?.skip(1).collect(rt.alloc())?;
     if words.is_empty() {
         let mut input = Vec::new(rt.alloc());
         rt.stdin().read_to_end(&mut input)?;
-        let texts = lines(rt.alloc(), input.as_slice())?;
-        return write_book(rt, texts.as_slice());
+        let texts = lines(rt.alloc(), &input)?;
+        return write_book(rt, &texts);
     }
     let mut texts = Vec::new(rt.alloc());
-    for word in words.as_slice() {
-        let text = word.as_bytes();
-        if text == b"--help".as_slice() {
+    for word in &words {
+        if word.as_str() == "--help" {
             println!(rt; "{USAGE}")?;
             return Ok(());
         }
-        if text.len() > 0 && text[0] == b'-' {
+        if word.starts_with('-') {
             return Err(anyhow!("{USAGE}"));
         }
-        texts.push(text)?;
+        texts.push(word.as_bytes())?;
     }
-    write_book(rt, texts.as_slice())
+    write_book(rt, &texts)
 }
 
 fn main(rt: HostRuntime) -> ExitCode {

@@ -7,17 +7,15 @@ use std::test::Fail;
 /// 64 symbols, then 63 `then`.
 fn sequence_codes() -> [u8; 127] {
     let mut codes = [1; 127];
-    for i in 64..127 {
-        codes[i] = 2;
-    }
+    codes[64..].fill(2);
     codes
 }
 
 /// Each of 64 positions followed by the next.
 fn sequence_rows() -> [u64; 64] {
     let mut rows = [0; 64];
-    for i in 0..63 {
-        rows[i] = 1 << (i + 1);
+    for (i, row) in rows[..63].iter_mut().enumerate() {
+        *row = 1 << (i + 1);
     }
     rows
 }
@@ -47,9 +45,7 @@ fn too_many_symbols(rt: HostRuntime) {
 /// 640 empty words, 639 `then`, and a '?'.
 fn empty_codes() -> [u8; 1280] {
     let mut codes = [0; 1280];
-    for i in 640..1279 {
-        codes[i] = 2;
-    }
+    codes[640..1279].fill(2);
     codes[1279] = 4;
     codes
 }

@@ -1,10 +1,11 @@
 // One call each, held to what was worked out.
+use super::trials::Tried;
 use codes::check as check_codes;
 use faults::Fault;
 use models::pairs::Pair;
 use models::tables::Sets;
-use models::trials::Trial;
-use models::{competing, sets, study, trial};
+use models::{Automaton, competing, sets, study};
+use std::alloc::{AllocError, Global};
 use std::process::Abort;
 use std::test::Fail;
 use symbols::Symbol;
@@ -13,31 +14,19 @@ use symbols::name_rows::NameRow;
 /// What each cell of the list of followers holds before a call.
 const MARK: u64 = 999;
 
-/// A name of one letter for each byte, of which the first 64 count.
-#[derive(Clone, Copy)]
-struct Names {
-    rows: [NameRow; 64],
-    count: usize,
-}
-
-fn spelled(letters: &[u8]) -> Names {
-    let mut rows = [NameRow::of(b"z"); 64];
-    let count = letters.len().min(64);
-    for i in 0..count {
-        rows[i] = NameRow::of(&letters[i..i + 1]);
-    }
-    Names { rows, count }
+/// A name of one letter for each byte.
+fn spelled(heap: Global, letters: &[u8]) -> Result<Vec<NameRow>, AllocError> {
+    letters
+        .iter()
+        .map(|letter| NameRow::of(&[*letter]))
+        .collect(heap)
 }
 
 /// Whether the rows are the first cells, and all others are as they were.
 fn written(cells: &[u64], rows: &[u64]) -> bool {
-    for i in 0..cells.len() {
-        let cell = if i < rows.len() { rows[i] } else { MARK };
-        if cells[i] != cell {
-            return false;
-        }
-    }
-    true
+    cells
+        .strip_prefix(rows)
+        .is_some_and(|rest| rest.iter().all(|cell| *cell == MARK))
 }
 
 /// Whether the codes over as many symbols as there are rows have these sets and followers.
@@ -87,22 +76,16 @@ pub fn ambiguous<S: Symbol>(
 }
 
 /// Whether the word of one-letter names, tried on the model, tells this.
-pub fn tells(
-    rt: &impl Abort,
-    codes: &[u8],
-    letters: &[u8],
-    word: &[u8],
-    expected: Trial,
-) -> Result<(), Fail> {
-    let symbols = spelled(letters);
-    let word = spelled(word);
+pub fn tells(rt: &impl Abort, heap: Global, case: &Tried) -> Result<(), Fail> {
+    let symbols = spelled(heap, case.names)?;
+    let word = spelled(heap, case.word)?;
     let mut cells = [MARK; 70];
-    assert!(rt; symbols.count <= 64 && word.count <= 64);
-    let symbols = &symbols.rows[0..symbols.count];
-    let found = study(codes, symbols, &mut cells)?;
-    assert_eq!(rt;
-        trial(found, &cells, symbols, &word.rows[0..word.count]),
-        expected
-    );
+    let sets = study(case.codes, &symbols, &mut cells)?;
+    let automaton = Automaton {
+        sets,
+        followers: &cells,
+        symbols: &symbols,
+    };
+    assert_eq!(rt; automaton.trial(&word), case.told);
     Ok(())
 }

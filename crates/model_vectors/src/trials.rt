@@ -4,11 +4,11 @@ use models::trials::Trial;
 use std::test::Fail;
 
 /// A model, as codes and one-letter names; a word of such names; and what its trial tells.
-struct Tried {
-    codes: &'static [u8],
-    names: &'static [u8],
-    word: &'static [u8],
-    told: Trial,
+pub struct Tried {
+    pub codes: &'static [u8],
+    pub names: &'static [u8],
+    pub word: &'static [u8],
+    pub told: Trial,
 }
 
 #[rattlefmt::skip]
@@ -35,7 +35,7 @@ const TRIED: &[Tried] = &[
 #[test]
 fn words(rt: HostRuntime) -> Result<(), Fail> {
     for case in TRIED {
-        tells(&rt, case.codes, case.names, case.word, case.told)?;
+        tells(&rt, rt.alloc(), case)?;
     }
     Ok(())
 }

@@ -1,13 +1,13 @@
 -- The tables of a model as an automaton are the model's.
-use Rattle.std.proofs.Common.{◌≡◌, ℕ, zero, suc, ◌+◌, ◌-◌, ◌^◌, ◌<◌, ◌≤◌, min, Bool, true, false, ◌&&◌, ltb, ◌⊎◌, List, length, get_or, Some, None, sym, refl, ap, ◌∙◌, subst, inl, inr, add-one, arith}
-use Rattle.std.proofs.lemmas.List.{get_or_past}
+use Rattle.std.proofs.Common.{◌≡◌, ℕ, zero, suc, ◌+◌, ◌-◌, ◌^◌, ◌<◌, ◌≤◌, min, Bool, true, ltb, ◌⊎◌, List, length, get_or, take, Some, None, sym, refl, ◌∙◌, subst, inl, inr, add-one, arith}
+use Rattle.std.proofs.lemmas.List.{get_or_past, get_or-take, length-take}
 use Rattle.std.proofs.lemmas.Bool.{lt-ltb, le-ltb, eqb-true, eq-eqb, cond-true, cond-false, and_parts, and_from, cases_lt}
 use Rattle.language.specs.Sets.{Follow, Last}
 use Rattle.language.specs.Meaning.{Model, body, symbol_at, like}
 use Rattle.language.proofs.Whole.{whole_empty}
 use Rattle.language.proofs.Exact.{first_begins, begins_first, last_ends, ends_last, follow_follows, follows_follow, empty_nullable}
 use Rattle.language.proofs.Chains.{Step, End}
-use Rattle.language.proofs.Symbols.{like_within}
+use Rattle.language.proofs.Symbols.{like_is, like_within}
 use Rattle.language.proofs.Reading.{Goes}
 use Rattle.models.specs.declared.tables.Sets.{Sets}
 use Rattle.models.specs.Bitsets.{Bit, bit}
@@ -23,15 +23,12 @@ next_none s rows n (suc x) h (inr k) =
     let z = get_or_past rows x 0 (omega arith) in
     elim (cases_lt x n) [ inl l ↦ sym (cond-true _ _ _ (lt-ltb x n l) ∙ z) | inr l ↦ sym (cond-false _ _ _ (le-ltb x n l)) ]
 
-pub ends_past : (s : Sets) (x : ℕ) → 64 < x → can_end s x ≡ false
-ends_past s zero h = absurd (omega arith)
-ends_past s (suc x) h = ap (λ b. b && bit s.last x) (le-ltb x 64 (omega arith))
-
-pub ends_at : (s : Sets) (x : ℕ) → (x ≡ 0 → ⊥) → x ≤ 64 → can_end s x ≡ bit s.last (x - 1)
-ends_at s zero h k = absurd (h refl)
-ends_at s (suc x) h k =
-    let e : x ≡ suc x - 1 = omega arith in
-    ap (λ b. b && bit s.last x) (lt-ltb x 64 (omega arith)) ∙ ap (bit s.last) e
+-- one of the first n symbols
+pub like_taken : {S : Type 0} (same : S → S → Bool) (xs : List S) (n y : ℕ) (a b : S) → y < length (take n xs) → b ≡ get_or (take n xs) y b
+    → like same (symbol_at xs (y + 1)) a ≡ same b a
+like_taken same xs n y a b h e =
+    let l = length-take n xs in
+    like_is same xs y a b (omega arith) (e ∙ get_or-take n xs y b (omega arith))
 
 -- the least position that the tables allow: `next` is the set of those that may come after the state x
 module _ {S : Type 0} (same : S → S → Bool) (s : Sets) (rows : List ℕ) (xs : List S) (x : ℕ) (a : S) (next : ℕ) (e : next ≡ set_after s rows (length xs) x) where

@@ -85,17 +85,13 @@ leaf_shows k h =
     let s : ShowsSet ((1 * 2 ^ k) % 2 ^ 64) (λ x. x ≡ k + 1) = subst (λ n. ShowsSet n (λ x. x ≡ k + 1)) (sym (one_shl k 64 h)) (only_set k) in
     record { null = (false_true, (λ e. absurd e)); begin = s; end = s }
 
-pub then_shows : (l r : Sets) (e f : Expr) → Shows l e → Shows r f
-    → Shows (record {
-      nullable = l.nullable && r.nullable;
-      first = cond l.nullable (bit_or l.first r.first) l.first;
-      last = cond r.nullable (bit_or r.last l.last) r.last;
-    }) (then e f)
-then_shows l r e f p q =
+pub then_shows : (l r t : Sets) (e f : Expr) → t.nullable ≡ (l.nullable && r.nullable) → t.first ≡ cond l.nullable (bit_or l.first r.first) l.first
+    → t.last ≡ cond r.nullable (bit_or r.last l.last) r.last → Shows l e → Shows r f → Shows t (then e f)
+then_shows l r t e f a b c p q =
     record {
-      null = Decides-and l.nullable r.nullable p.null q.null;
-      begin = with_set l.nullable l.first r.first (Nullable e) (First e) (First f) p.null p.begin q.begin;
-      end = with_set r.nullable r.last l.last (Nullable f) (Last f) (Last e) q.null q.end p.end;
+      null = rw a (Decides-and l.nullable r.nullable p.null q.null);
+      begin = rw b (with_set l.nullable l.first r.first (Nullable e) (First e) (First f) p.null p.begin q.begin);
+      end = rw c (with_set r.nullable r.last l.last (Nullable f) (Last f) (Last e) q.null q.end p.end);
     }
 
 pub either_shows : (l r : Sets) (e f : Expr) → Shows l e → Shows r f

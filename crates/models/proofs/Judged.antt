@@ -12,22 +12,19 @@ use Rattle.models.specs.Clashes.{Found}
 use Rattle.models.specs.Told.{PairTold, Studied}
 use Rattle.models.proofs.Clashing.{found_least, found_none}
 
--- rows is the array of rows, of which the code takes the first k
-module _ {S : Type 0} (same : S → S → Bool) (m : Model S) (s : Sets) (rows : List ℕ) (k : ℕ) (q : k ≡ length m.symbols) (w : Formed m)
+-- rows is the array of rows, of which the code takes as many as there are symbols
+module _ {S : Type 0} (same : S → S → Bool) (m : Model S) (s : Sets) (rows : List ℕ) (w : Formed m)
     (even : length (take (length m.symbols) rows) ≡ length m.symbols)
     (t : SetsOf s (take (length m.symbols) rows) (length m.symbols) (body m)) where
-  at_rows : (o : Option Pair) → Found same m.symbols s.first (take k rows) (length m.symbols) o
-      → Found same m.symbols s.first (take (length m.symbols) rows) (length m.symbols) o
-  at_rows o f = subst (λ j. Found same m.symbols s.first (take j rows) (length m.symbols) o) q f
+  pub least : (p : Pair) → Found same m.symbols s.first (take (length m.symbols) rows) (length m.symbols) (Some p) → LeastCompeting same m p.first p.second
+  least p f = found_least same m s (take (length m.symbols) rows) w even t (length m.symbols) p f
 
-  pub least : (p : Pair) → Found same m.symbols s.first (take k rows) (length m.symbols) (Some p) → LeastCompeting same m p.first p.second
-  least p f = found_least same m s (take (length m.symbols) rows) w even t (length m.symbols) p (at_rows (Some p) f)
+  pub none : {foreign : S → Bool} → KindLaws same foreign → Found same m.symbols s.first (take (length m.symbols) rows) (length m.symbols) None
+      → Unambiguous same m
+  none laws f = found_none same m s (take (length m.symbols) rows) w even t laws f
 
-  pub none : {foreign : S → Bool} → KindLaws same foreign → Found same m.symbols s.first (take k rows) (length m.symbols) None → Unambiguous same m
-  none laws f = found_none same m s (take (length m.symbols) rows) w even t laws (at_rows None f)
-
-  pub pair_told : {foreign : S → Bool} → KindLaws same foreign → (o : Option Pair) → Found same m.symbols s.first (take k rows) (length m.symbols) o
-      → PairTold same m (Ok o)
+  pub pair_told : {foreign : S → Bool} → KindLaws same foreign → (o : Option Pair)
+      → Found same m.symbols s.first (take (length m.symbols) rows) (length m.symbols) o → PairTold same m (Ok o)
   pair_told laws None f = (w, none laws f)
   pair_told laws (Some p) f = (w, least p f)
 

@@ -1,7 +1,6 @@
 pub mod Bitsets
 pub mod Stacks
 pub mod OneCode
-pub mod Ended
 pub mod Tellings
 pub mod Sharing
 pub mod Clashing
@@ -9,3 +8,4 @@ pub mod Written
 pub mod Judged
 pub mod Automata
 pub mod Answered
+pub mod Skipped

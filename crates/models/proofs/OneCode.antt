@@ -1,49 +1,42 @@
--- What one code makes of the stack, by its number.
-use Rattle.std.proofs.Common.{◌≡◌, ℕ, ◌+◌, ◌-◌, ◌<◌, ◌≤◌, ltb, List, [], ◌∷◌, Some, Option, sym, refl, ap, subst, arith}
+-- What one code makes of the stack.
+use Rattle.std.proofs.Common.{◌≡◌, ℕ, ◌+◌, ◌<◌, ltb, List, [], ◌∷◌, ◌++◌, length, Some, refl, ap, arith, length-append}
 use Rattle.std.proofs.lemmas.Bool.{lt-ltb}
 use Rattle.models.specs.declared.tables.Sets.{Sets}
-use Rattle.codes.specs.declared.Tally.{Tally}
-use Rattle.codes.specs.Tree.{empty, leaf, maybe}
+use Rattle.codes.specs.Tree.{empty, leaf}
 use Rattle.language.specs.Words.{Expr}
-use Rattle.codes.specs.Build.{goes, fresh, unary, binary, step}
-use Rattle.models.specs.Machine.{Stack, Rows, Advanced, Bounded}
-use Rattle.models.proofs.Stacks.{rows_none}
+use Rattle.codes.specs.Build.{goes, fresh, unary, binary}
+use Rattle.models.specs.Machine.{Shows, Stack, Rows, Advanced}
+use Rattle.models.proofs.Stacks.{pushed, popped, rows_none}
 
--- what a code makes, by its number and by the tally that is returned
-pub bounds_at : (t u : Tally) (n : ℕ) (o : Option Tally) → o ≡ Some u → u.parts ≤ t.parts + 1 → u.used ≤ n → Bounded o t n
-bounds_at t u n o q h k = subst (λ (r : Option Tally). Bounded r t n) (sym q) (h, k)
+module _ (ps qs : List Sets) (p : Sets) (rs : List ℕ) (u : ℕ) where
+  pub empty_advanced : qs ≡ ps ++ p ∷ [] → Shows p empty → (s : List Expr) → Stack ps s → Rows rs s → Advanced (Some tt) (goes (empty ∷ s) u) qs u rs
+  empty_advanced q h s k m = (empty ∷ s, refl, pushed ps qs p empty s q h k, rows_none rs empty s (λ x y f. f) m)
 
-pub made_at : (n code k u : ℕ) (t : Tally) (o : Option Tally) (s : List Expr) (ps : List Sets) (rs : List ℕ) → code ≡ k → o ≡ Some t
-    → Advanced (Some t) (step n k s u) ps rs → Advanced o (step n code s u) ps rs
-made_at n code k u t o s ps rs e q h =
-    subst (λ (r : Option Tally). Advanced r (step n code s u) ps rs) (sym q) (subst (λ (c : ℕ). Advanced (Some t) (step n c s u) ps rs) (sym e) h)
+  pub leaf_advanced : (n : ℕ) → u < n → qs ≡ ps ++ p ∷ [] → Shows p (leaf (u + 1)) → (s : List Expr) → Stack ps s → Rows rs s
+      → Advanced (Some tt) (fresh (ltb u n) s u) qs (u + 1) rs
+  leaf_advanced n l q h s k m =
+      (leaf (u + 1) ∷ s, ap (λ b. fresh b s u) (lt-ltb u n l), pushed ps qs p (leaf (u + 1)) s q h k, rows_none rs (leaf (u + 1)) s (λ x y f. f) m)
 
-pub binary_advanced : (f : Expr → Expr → Expr) (ps qs : List Sets) (rs ts : List ℕ) (d n : ℕ) → 2 ≤ d
-    → ((l r : Expr) (s : List Expr) → Stack ps d (r ∷ (l ∷ s)) → Stack qs (d - 1) (f l r ∷ s))
-    → ((l r : Expr) (s : List Expr) → Stack ps d (r ∷ (l ∷ s)) → Rows rs (r ∷ (l ∷ s)) → Rows ts (f l r ∷ s))
-    → (s : List Expr) → Stack ps d s → Rows rs s → Advanced (Some (record { parts = d - 1; used = n })) (binary f s n) qs ts
-binary_advanced f ps qs rs ts d n h a b [] k m = absurd (omega arith)
-binary_advanced f ps qs rs ts d n h a b (r ∷ []) k m = absurd (omega arith)
-binary_advanced f ps qs rs ts d n h a b (r ∷ (l ∷ s)) k m = (f l r ∷ s, refl, a l r s k, b l r s k m)
+-- the stack ps has the part t on ls, qs has p there, and the rows rs become ts
+module _ (f : Expr → Expr) (ps ls qs : List Sets) (t p : Sets) (rs ts : List ℕ) (u : ℕ) where
+  pub unary_advanced : ps ≡ ls ++ t ∷ [] → qs ≡ ls ++ p ∷ [] → ((e : Expr) → Shows t e → Shows p (f e))
+      → ((e : Expr) (s : List Expr) → Shows t e → Rows rs (e ∷ s) → Rows ts (f e ∷ s))
+      → (s : List Expr) → Stack ps s → Rows rs s → Advanced (Some tt) (unary f s u) qs u ts
+  unary_advanced a b h g [] k m = absurd (omega (arith, length-append ls (t ∷ []), ap length a, ap length k))
+  unary_advanced a b h g (e ∷ s) k m =
+      let one = popped ps ls t e s a k in
+      (f e ∷ s, refl, pushed ls qs p (f e) s b (h e one.0) one.1, g e s one.0 m)
 
-pub unary_advanced : (f : Expr → Expr) (ps qs : List Sets) (rs ts : List ℕ) (d n : ℕ) → 1 ≤ d
-    → ((e : Expr) (s : List Expr) → Stack ps d (e ∷ s) → Stack qs d (f e ∷ s))
-    → ((e : Expr) (s : List Expr) → Stack ps d (e ∷ s) → Rows rs (e ∷ s) → Rows ts (f e ∷ s))
-    → (s : List Expr) → Stack ps d s → Rows rs s → Advanced (Some (record { parts = d; used = n })) (unary f s n) qs ts
-unary_advanced f ps qs rs ts d n h a b [] k m = absurd (omega arith)
-unary_advanced f ps qs rs ts d n h a b (e ∷ s) k m = (f e ∷ s, refl, a e s k, b e s k m)
-
-pub empty_advanced : (ps qs : List Sets) (rs : List ℕ) (d n : ℕ)
-    → ((s : List Expr) → Stack ps d s → Stack qs (d + 1) (empty ∷ s))
-    → (s : List Expr) → Stack ps d s → Rows rs s → Advanced (Some (record { parts = d + 1; used = n })) (goes (empty ∷ s) n) qs rs
-empty_advanced ps qs rs d n a s k m = (empty ∷ s, refl, a s k, rows_none rs empty s (λ x y f. f) m)
-
-pub leaf_advanced : (ps qs : List Sets) (rs : List ℕ) (count d n : ℕ) → n < count
-    → ((s : List Expr) → Stack ps d s → Stack qs (d + 1) (leaf (n + 1) ∷ s))
-    → (s : List Expr) → Stack ps d s → Rows rs s
-    → Advanced (Some (record { parts = d + 1; used = n + 1 })) (fresh (ltb n count) s n) qs rs
-leaf_advanced ps qs rs count d n h a s k m =
-    (leaf (n + 1) ∷ s, ap (λ b. fresh b s n) (lt-ltb n count h), a s k, rows_none rs (leaf (n + 1)) s (λ x y f. f) m)
-
-pub rows_maybe : (rs : List ℕ) (e : Expr) (s : List Expr) → Rows rs (e ∷ s) → Rows rs (maybe e ∷ s)
-rows_maybe rs e s h = h
+-- the stack ps has the part r on ms, which has l on ls; qs has p on ls, and the rows rs become ts
+module _ (f : Expr → Expr → Expr) (ps ms ls qs : List Sets) (l r p : Sets) (rs ts : List ℕ) (u : ℕ) where
+  pub binary_advanced : ps ≡ ms ++ r ∷ [] → ms ≡ ls ++ l ∷ [] → qs ≡ ls ++ p ∷ [] → ((d e : Expr) → Shows l d → Shows r e → Shows p (f d e))
+      → ((d e : Expr) (s : List Expr) → Shows l d → Shows r e → Rows rs (e ∷ (d ∷ s)) → Rows ts (f d e ∷ s))
+      → (s : List Expr) → Stack ps s → Rows rs s → Advanced (Some tt) (binary f s u) qs u ts
+  binary_advanced a b c h g [] k m = absurd (omega (arith, length-append ms (r ∷ []), ap length a, ap length k))
+  binary_advanced a b c h g (e ∷ []) k m =
+      let one = popped ps ms r e [] a k in
+      absurd (omega (arith, length-append ls (l ∷ []), ap length b, ap length one.1))
+  binary_advanced a b c h g (e ∷ (d ∷ s)) k m =
+      let one = popped ps ms r e (d ∷ s) a k in
+      let two = popped ms ls l d s b one.1 in
+      (f d e ∷ s, refl, pushed ls qs p (f d e) s c (h d e two.0 one.0) two.1, g d e s two.0 one.0 m)

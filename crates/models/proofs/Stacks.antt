@@ -1,35 +1,24 @@
 -- The stack of parts and the rows, under one code.
-use Rattle.std.proofs.Common.{◌≡◌, ℕ, ◌+◌, ◌-◌, ◌/◌, ◌%◌, ◌^◌, ◌<◌, ◌≤◌, ◌≢◌, ◌⊎◌, List, [], ◌∷◌, length, get_or, set, Decides, sym, subst, inl, inr, arith, get_or-set_other, get_or-set_same}
+use Rattle.std.proofs.Common.{◌≡◌, ℕ, ◌+◌, ◌/◌, ◌%◌, ◌^◌, ◌<◌, ◌⊎◌, List, [], ◌∷◌, ◌++◌, length, get_or, Decides, sym, ◌∙◌, subst, inl, inr, arith}
+use Rattle.std.proofs.lemmas.List.{same_from_push}
 use Rattle.std.proofs.lemmas.Bool.Decides.{Decides-eqb, Decides-like}
 use Rattle.models.specs.declared.tables.Sets.{Sets}
 use Rattle.codes.specs.Tree.{then, either, some}
 use Rattle.language.specs.Words.{Expr}
 use Rattle.language.specs.Sets.{First, Last, Follow}
 use Rattle.models.specs.Bitsets.{Bit, bit, ShowsSet}
-use Rattle.models.specs.Machine.{Shows, no_sets, Stack, FollowAny, Rows, Linked}
+use Rattle.models.specs.Machine.{Shows, Stack, FollowAny, Rows, Linked}
 use Rattle.models.proofs.Bitsets.{with_set}
 
--- a write at or above the parts leaves them
-pub stack_keep : (ps : List Sets) (i : ℕ) (p : Sets) (s : List Expr) (d : ℕ) → d ≤ i → Stack ps d s → Stack (set ps i p) d s
-stack_keep ps i p [] d h k = k
-stack_keep ps i p (e ∷ s) d h k =
-    let ne : d - 1 ≢ i = omega arith in
-    let le : d - 1 ≤ i = omega arith in (
-      k.0,
-      subst (λ q. Shows q e) (sym (get_or-set_other ps i (d - 1) p no_sets ne)) k.1,
-      stack_keep ps i p s (d - 1) le k.2,
-    )
-
 -- a part is put on top
-pub stack_put : (ps : List Sets) (i d : ℕ) (p : Sets) (e : Expr) (s : List Expr) → d ≡ i + 1 → i < length ps → Shows p e
-    → Stack ps i s → Stack (set ps i p) d (e ∷ s)
-stack_put ps i d p e s q h m k =
-    let pos : 0 < d = omega arith in
-    let top : i ≡ d - 1 = omega arith in (
-      pos,
-      subst (λ j. Shows (get_or (set ps i p) j no_sets) e) top (subst (λ x. Shows x e) (sym (get_or-set_same ps i p no_sets h)) m),
-      subst (λ j. Stack (set ps i p) j s) top (stack_keep ps i p s i (omega arith) k),
-    )
+pub pushed : (ps qs : List Sets) (p : Sets) (e : Expr) (s : List Expr) → qs ≡ ps ++ p ∷ [] → Shows p e → Stack ps s → Stack qs (e ∷ s)
+pushed ps qs p e s q h k = (ps, p, q, h, k)
+
+-- the top part is taken
+pub popped : (ps qs : List Sets) (p : Sets) (e : Expr) (s : List Expr) → ps ≡ qs ++ p ∷ [] → Stack ps (e ∷ s) → Shows p e × Stack qs s
+popped ps qs p e s q k =
+    let both = same_from_push qs k.0 p k.1 (sym q ∙ k.2) in
+    (subst (λ r. Shows r e) (sym both.1) k.3, subst (λ l. Stack l s) (sym both.0) k.4)
 
 -- two sets that are one
 pub set_like : (n : ℕ) (P Q : ℕ → Type 0) → ((x : ℕ) → P x → Q x) → ((x : ℕ) → Q x → P x) → ShowsSet n P → ShowsSet n Q
@@ -104,10 +93,3 @@ pub rows_none : (rs : List ℕ) (e : Expr) (s : List Expr) → ((x y : ℕ) → 
 rows_none rs e s no_one h x lt =
     set_like (get_or rs x 0) (FollowAny s (x + 1)) (FollowAny (e ∷ s) (x + 1)) (λ y f. inr f)
     (λ y f. elim f [ inl g ↦ absurd (no_one (x + 1) y g) | inr g ↦ g ]) (h x lt)
-
--- the top parts
-pub two_parts : (ps : List Sets) (d : ℕ) (l r : Expr) (s : List Expr) → Stack ps d (r ∷ (l ∷ s))
-    → Shows (get_or ps (d - 2) no_sets) l × Shows (get_or ps (d - 1) no_sets) r × Stack ps (d - 2) s
-two_parts ps d l r s k =
-    let q : d - 1 - 1 ≡ d - 2 = omega arith in
-    (subst (λ j. Shows (get_or ps j no_sets) l) q k.2.1, k.1, subst (λ j. Stack ps j s) q k.2.2)

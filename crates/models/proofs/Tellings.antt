@@ -66,5 +66,5 @@ zeros zero (suc k) x = refl
 zeros (suc n) (suc k) zero = refl
 zeros (suc n) (suc k) (suc x) = zeros n k x
 
-pub zeros_length : (k n : ℕ) → k ≡ n → n ≤ 64 → length (take k (replicate {A = ℕ} 64 0)) ≡ n
-zeros_length k n e h = let l = length-take k (replicate {A = ℕ} 64 0) in omega arith
+pub zeros_length : (n : ℕ) → n ≤ 64 → length (take n (replicate {A = ℕ} 64 0)) ≡ n
+zeros_length n h = omega (arith, length-take n (replicate {A = ℕ} 64 0))

@@ -1,7 +1,7 @@
 -- The sets of the parts that codes have built, as the code keeps them. Assumes nothing.
-use Rattle.std.specs.Prelude.{◌≡◌, ℕ, ◌+◌, ◌-◌, ◌<◌, ◌≤◌, false, cond, ◌⊎◌, List, [], ◌∷◌, length, take, Some, None, Ok, Err, Decides, Option, Result, bit_or, slice_index, slice_index_or}
+use Rattle.std.specs.Prelude.{◌≡◌, ℕ, ◌+◌, ◌<◌, false, cond, ◌⊎◌, List, [], ◌∷◌, ◌++◌, length, take, Some, None, Ok, Err, Decides, Option, Result, bit_or, slice_index}
 use Rattle.faults.specs.declared.Fault.{Fault}
-use Rattle.codes.specs.declared.Tally.{Tally}
+use Rattle.faults.specs.declared.Fault.TheVariants.{Malformed}
 use Rattle.codes.specs.Build.{Next, goes, stops, Built, model, fault}
 use Rattle.codes.specs.Checked.{WellFormed, Refused}
 use Rattle.language.specs.Words.{Expr}
@@ -18,14 +18,14 @@ pub record Shows (p : Sets) (e : Expr) : Type 0 where
   pub begin : ShowsSet p.first (First e)
   pub end : ShowsSet p.last (Last e)
 
--- the sets that a place of the stack has before it is used
+-- the sets of no part, as `Sets::default` gives them
 abbrev pub no_sets : Sets
 no_sets = record { nullable = false; first = 0; last = 0 }
 
--- the first d of ps are the sets of the parts s, whose last comes first
-abbrev pub Stack : List Sets → ℕ → List Expr → Type 0
-Stack ps d [] = d ≡ 0
-Stack ps d (e ∷ s) = (0 < d) × Shows (slice_index_or ps (d - 1) no_sets) e × Stack ps (d - 1) s
+-- ps are the sets of the parts s, whose last comes first
+abbrev pub Stack : List Sets → List Expr → Type 0
+Stack ps [] = ps ≡ []
+Stack ps (e ∷ s) = (qs : List Sets) × (p : Sets) × (ps ≡ qs ++ p ∷ []) × Shows p e × Stack qs s
 
 -- y follows x in a part of s
 abbrev pub FollowAny : List Expr → ℕ → ℕ → Type 0
@@ -44,20 +44,15 @@ linked last first row x = cond (bit last x) (bit_or row first) row
 abbrev pub Linked : ℕ → ℕ → List ℕ → List ℕ → Type 0
 Linked last first rs ts = (length ts ≡ length rs) × ((x : ℕ) → x < length rs → slice_index ts x ≡ linked last first (slice_index rs x) x)
 
--- what one code makes of the parts and the rows
-abbrev pub Advanced : Option Tally → Next → List Sets → List ℕ → Type 0
-Advanced None x ps rs = x ≡ stops
-Advanced (Some t) x ps rs = (s : List Expr) × (x ≡ goes s t.used) × Stack ps t.parts s × Rows rs s
-
--- a code adds at most one part, and uses at most n symbols in all
-abbrev pub Bounded : Option Tally → Tally → ℕ → Type 0
-Bounded None t n = Unit {0}
-Bounded (Some r) t n = (r.parts ≤ t.parts + 1) × (r.used ≤ n)
+-- what one code makes of the parts, of the number of symbols used and of the rows
+abbrev pub Advanced : Option (Unit {0}) → Next → List Sets → ℕ → List ℕ → Type 0
+Advanced None x ps n rs = x ≡ stops
+Advanced (Some t) x ps n rs = (s : List Expr) × (x ≡ goes s n) × Stack ps s × Rows rs s
 
 -- what all codes make
-abbrev pub Evaluated : Result Sets ℕ → Built → List ℕ → Type 0
+abbrev pub Evaluated : Result Sets Fault → Built → List ℕ → Type 0
 Evaluated (Ok p) b rs = (e : Expr) × (b ≡ model e) × Shows p e × Rows rs (e ∷ [])
-Evaluated (Err i) b rs = b ≡ fault i
+Evaluated (Err f) b rs = (i : ℕ) × (f ≡ Malformed i) × (b ≡ fault i)
 
 -- the tables of codes over n symbols, in the first n of 64 rows
 abbrev pub Tabulated : ℕ → List ℕ → Result Tables Fault → Type 0

@@ -1,5 +1,5 @@
 -- The tables of a model as an automaton: state 0 is the start, state x is position x. Assumes nothing.
-use Rattle.std.specs.Prelude.{◌≡◌, ℕ, zero, suc, ◌-◌, ◌≤◌, Bool, true, cond, ◌&&◌, List, length, Some, None, Option, nat_lt, slice_index}
+use Rattle.std.specs.Prelude.{◌≡◌, ℕ, zero, suc, ◌-◌, ◌≤◌, min, Bool, true, cond, ◌&&◌, List, length, Some, None, Option, nat_le, nat_lt, slice_index}
 use Rattle.language.specs.Meaning.{like, symbol_at}
 use Rattle.models.specs.declared.tables.Sets.{Sets}
 use Rattle.models.specs.Bitsets.{Bit, bit}
@@ -8,6 +8,14 @@ use Rattle.models.specs.Bitsets.{Bit, bit}
 abbrev pub set_after : Sets → List ℕ → ℕ → ℕ → ℕ
 set_after s rows n zero = s.first
 set_after s rows n (suc x) = cond (nat_lt x n) (slice_index rows x) 0
+
+-- how many positions there are: of more than 64 symbols, only the first 64 count
+abbrev pub positions : {S : Type 0} → List S → ℕ
+positions xs = min (length xs) 64
+
+-- whether position y may come after state x, of n positions
+abbrev pub can_follow : Sets → List ℕ → ℕ → ℕ → ℕ → Bool
+can_follow s rows n x y = nat_le 1 y && (nat_le y n && bit (set_after s rows n x) (y - 1))
 
 -- whether a word may end in a state: in none past 64
 abbrev pub can_end : Sets → ℕ → Bool

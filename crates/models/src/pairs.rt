@@ -1,8 +1,8 @@
 // The first two positions of a model that compete, by its tables.
-ghost use Rattle.std.specs.Prelude.{◌≡◌, ℕ, ◌<◌, ◌≤◌, length};
+ghost use Rattle.std.specs.Prelude.{◌≡◌, ℕ, ◌<◌, ◌≤◌, get_or, length};
 ghost use Rattle.models.specs.Clashes.{Found, Opposing, Shares};
 
-use super::bits::{has, with};
+use super::bits::has;
 use symbols::Symbol;
 
 /// Two positions that compete, the lesser first; positions are counted from 1.
@@ -17,23 +17,23 @@ fn sharing(first: u64, rows: &[u64], x: usize) -> u64
     requires { x < 64 }
     ensures { Shares result first rows.now (length rows.now) x }
 {
-    let begins = has(first, x);
-    let mut set = with(0, first, begins);
+    let mut set = if has(first, x) { first } else { 0 };
     for row in rows {
-        let follows = has(*row, x);
-        set = with(set, *row, follows);
+        if has(*row, x) {
+            set |= *row;
+        }
     }
     set
 }
 
 /// The least position of the set, past the one of bit x, that has its symbol.
-fn opposing<S: Symbol>(set: u64, symbols: &[S], x: usize) -> Option<usize>
-    requires { (length symbols.now ≤ 64) × (x < length symbols.now) }
+fn opposing<S: Symbol>(set: u64, symbols: &[S], x: usize, symbol: &S) -> Option<usize>
+    requires few { (length symbols.now ≤ 64) × (x < length symbols.now) }
+    requires own { symbol.now ≡ get_or symbols.now x symbol.now }
     ensures { Opposing S.Symbol.same symbols.now set x (length symbols.now) result }
 {
-    let symbol = &symbols[x];
-    for y in x + 1..symbols.len() {
-        if has(set, y) && symbol.same(&symbols[y]) {
+    for (y, other) in symbols.iter().enumerate().skip(x + 1) {
+        if has(set, y) && symbol.same(other) {
             return Some(y);
         }
     }
@@ -45,9 +45,9 @@ pub(crate) fn least_pair<S: Symbol>(first: u64, rows: &[u64], symbols: &[S]) -> 
     requires { length symbols.now ≤ 64 }
     ensures { Found S.Symbol.same symbols.now first rows.now (length symbols.now) result }
 {
-    for x in 0..symbols.len() {
+    for (x, symbol) in symbols.iter().enumerate() {
         let set = sharing(first, rows, x);
-        if let Some(y) = opposing(set, symbols, x) {
+        if let Some(y) = opposing(set, symbols, x, symbol) {
             return Some(Pair {
                 first: x + 1,
                 second: y + 1,

@@ -1,31 +1,18 @@
 // What the words of a model begin and end with, and whether one is empty, from its parts.
-ghost use Rattle.std.specs.Prelude.{◌≡◌, ◌+◌, ◌<◌, ◌&&◌, ◌||◌};
-ghost use Rattle.codes.specs.Tree.{either, empty, leaf, many, maybe, some, then};
+ghost use Rattle.std.specs.Prelude.{◌≡◌, ◌+◌, ◌<◌};
+ghost use Rattle.codes.specs.Tree.{either, empty, leaf, many, maybe, then};
 ghost use Rattle.language.specs.Words.{Expr};
 ghost use Rattle.models.specs.Machine.{Shows};
+ghost use Rattle.models.specs.Stepping.{can_end, set_after};
 
-use super::bits::with;
+use super::bits::has;
 
 /// What the words of a model begin and end with, and whether one is empty; bit y - 1 of a set stands for position y.
-#[derive(Clone, Copy, PartialEq, Eq, Debug)]
+#[derive(Clone, Copy, Default, PartialEq, Eq, Debug)]
 pub struct Sets {
     pub nullable: bool,
     pub first: u64,
     pub last: u64,
-}
-
-/// Whether both hold.
-fn both(a: bool, b: bool) -> bool
-    ensures { result ≡ (a && b) }
-{
-    a && b
-}
-
-/// Whether either holds.
-fn any(a: bool, b: bool) -> bool
-    ensures { result ≡ (a || b) }
-{
-    a || b
 }
 
 impl Sets {
@@ -35,8 +22,7 @@ impl Sets {
     {
         Sets {
             nullable: true,
-            first: 0,
-            last: 0,
+            ..Sets::default()
         }
     }
 
@@ -53,50 +39,69 @@ impl Sets {
         }
     }
 
-    /// The sets of one part, then another.
-    pub(crate) fn of_then(l: Sets, r: Sets) -> Sets
-        ensures { (e f : Expr) → Shows l e → Shows r f → Shows result (then e f) }
+    /// The sets of this part, then another.
+    pub(crate) fn then(self, next: Sets) -> Sets
+        ensures { (e f : Expr) → Shows self e → Shows next f → Shows result (then e f) }
     {
-        let first = with(l.first, r.first, l.nullable);
-        let last = with(r.last, l.last, r.nullable);
         Sets {
-            nullable: both(l.nullable, r.nullable),
-            first,
-            last,
+            nullable: self.nullable && next.nullable,
+            first: if self.nullable {
+                self.first | next.first
+            } else {
+                self.first
+            },
+            last: if next.nullable {
+                next.last | self.last
+            } else {
+                next.last
+            },
         }
     }
 
-    /// The sets of either of two parts.
-    pub(crate) fn of_either(l: Sets, r: Sets) -> Sets
-        ensures { (e f : Expr) → Shows l e → Shows r f → Shows result (either e f) }
+    /// The sets of this part or another.
+    pub(crate) fn or(self, other: Sets) -> Sets
+        ensures { (e f : Expr) → Shows self e → Shows other f → Shows result (either e f) }
     {
         Sets {
-            nullable: any(l.nullable, r.nullable),
-            first: l.first | r.first,
-            last: l.last | r.last,
+            nullable: self.nullable || other.nullable,
+            first: self.first | other.first,
+            last: self.last | other.last,
         }
     }
 
-    /// The sets of a part that may be left out.
-    pub(crate) fn optional(p: Sets) -> Sets
-        ensures maybe { (e : Expr) → Shows p e → Shows result (maybe e) }
-        ensures many { (e : Expr) → Shows p e → Shows result (many e) }
+    /// The sets of this part where it may be left out.
+    pub(crate) fn optional(self) -> Sets
+        ensures maybe { (e : Expr) → Shows self e → Shows result (maybe e) }
+        ensures many { (e : Expr) → Shows self e → Shows result (many e) }
     {
         Sets {
             nullable: true,
-            first: p.first,
-            last: p.last,
+            ..self
         }
     }
 
-    /// The sets of a part that comes at least once.
-    pub(crate) fn repeated(p: Sets) -> Sets
-        ensures { (e : Expr) → Shows p e → Shows result (some e) }
+    /// The positions that may come after a state, of so many positions; bit y - 1 stands for position y. None come after a
+    /// state past the positions or past the list of followers.
+    pub fn next_positions(self, followers: &[u64], positions: usize, state: usize) -> u64
+        ensures { result ≡ set_after self followers.now positions state }
     {
-        Sets {
-            nullable: p.nullable,
-            first: p.first,
-            last: p.last,
+        if state == 0 {
+            self.first
+        } else if state <= positions {
+            followers.get(state - 1).copied().unwrap_or(0)
+        } else {
+            0
+        }
+    }
+
+    /// Whether a word may end in a state.
+    pub fn may_end(self, state: usize) -> bool
+        ensures { result ≡ can_end self state }
+    {
+        if state == 0 {
+            self.nullable
+        } else {
+            state <= 64 && has(self.last, state - 1)
         }
     }
 }

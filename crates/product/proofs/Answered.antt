@@ -1,5 +1,5 @@
 -- The theorems on the answers of a comparison.
-use Rattle.std.proofs.Common.{◌≡◌, ℕ, ◌*◌, ◌<◌, ◌≤◌, Bool, List, ◌++◌, length, drop, Ok, Result, sym, refl, ap, subst, arith}
+use Rattle.std.proofs.Common.{◌≡◌, ℕ, ◌*◌, ◌<◌, ◌≤◌, Bool, List, ◌++◌, length, drop, Ok, Result, sym, refl, ap, subst, arith, Some, Option}
 use Rattle.symbols.specs.Kinds.{KindLaws}
 use Rattle.faults.specs.declared.Fault.{Fault}
 use Rattle.language.specs.Meaning.{Model, Formed, spelled, Spells, Word}
@@ -7,8 +7,6 @@ use Rattle.language.proofs.Symbols.{spells_own}
 use Rattle.tables.specs.Tables.{Table}
 use Rattle.tables.specs.Words.{Takes}
 use Rattle.walk.proofs.Words.{notafter_both}
-use Rattle.product.specs.declared.Compared.{Compared}
-use Rattle.product.specs.declared.Compared.TheVariants.{Missed}
 use Rattle.product.specs.Compares.{LeastAstray, pairs, CompareSays, little_work, little_word, included, missed}
 use Rattle.product.specs.Theorems.{OneComparison, IncludedExactly, SameWords}
 use Rattle.product.proofs.Astray.{marked_within}
@@ -39,7 +37,7 @@ module _ {S : Type 0} (same : S → S → Bool) {foreign : S → Bool} (laws : K
   one t m F work word u v a b (missed h i g) (little_word k l) = absurd (omega (arith, i, l))
   one t m F work word u v a b (missed {w = w} h i g) (included k l f) = absurd (astray_not t m F w g f)
   one t m F work word u v a b (missed {w = w} h i g) (missed {w = x} k l f) =
-      let q = astray_one t m w x g f in (ap (λ y. Ok (Missed (length y))) q, ap (λ y. y ++ drop (length y) word) q)
+      let q = astray_one t m w x g f in (ap (λ y. Ok (Some (length y))) q, ap (λ y. y ++ drop (length y) word) q)
 
   pub exactly : IncludedExactly same
   exactly t m F work word word' r h k (little_work i) = absurd (omega (arith, h, i))
@@ -67,7 +65,7 @@ same_words {S} same t m k q f work word word' r d = «by» d
     words : ((s : List S) → Word same m s → Takes t s) → (s : List S) → Word same k s → Takes t s
     words g s d = g s (d.0, (f d.0).1 d.1, subst (λ xs. Spells same xs d.0 s) (sym q) d.2)
 
-    «by» : {r : Result Compared Fault} {u : List ℕ} → CompareSays same t m work word r u → CompareSays same t k work word r u
+    «by» : {r : Result (Option ℕ) Fault} {u : List ℕ} → CompareSays same t m work word r u → CompareSays same t k work word r u
     «by» (little_work h) = rw (size) (little_work (subst (λ i. work < 2 * i) size h))
     «by» (little_word h i) = rw (size) (little_word (subst (λ i. 2 * i ≤ work) size h) (subst (λ i. length word < i) size i))
     «by» (included h i g) = included (subst (λ i. 2 * i ≤ work) size h) (subst (λ i. i ≤ length word) size i) (words g)

@@ -20,7 +20,8 @@ use Rattle.tables.proofs.Leading.{takes_decides}
 use Rattle.walk.specs.Order.{Word as Labels}
 use Rattle.walk.specs.Graph.{LabelledGraph, Leads, WantedWord}
 use Rattle.walk.specs.Graph.Leads.{stay as at_rest, step as along}
-use Rattle.product.specs.Pairs.{positions, can_follow, after, node, product}
+use Rattle.models.specs.Stepping.{positions, can_follow}
+use Rattle.product.specs.Pairs.{after, node, product}
 use Rattle.product.specs.PairsSound.{goes_parts, follows_parts, after_within}
 use Rattle.product.proofs.Readings.{run, run_ends, alike_ends}
 

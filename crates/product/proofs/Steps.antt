@@ -5,7 +5,8 @@ use Rattle.language.specs.Meaning.{symbol_at}
 use Rattle.language.proofs.Symbols.{symbol_is}
 use Rattle.models.specs.declared.tables.Sets.{Sets}
 use Rattle.tables.specs.Tables.{Table, Sound}
-use Rattle.product.specs.Pairs.{positions, can_follow, after, product}
+use Rattle.models.specs.Stepping.{positions, can_follow}
+use Rattle.product.specs.Pairs.{after, product}
 use Rattle.product.specs.PairsSound.{follows_parts, after_within}
 
 -- the reader's state after the symbol of position y, which was read as a

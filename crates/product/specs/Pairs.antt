@@ -1,20 +1,11 @@
 -- The product graph of a model and a reader. The model is given by its tables: state 0 is its start, and state x its position x. Assumes nothing.
-use Rattle.std.specs.Prelude.{ℕ, ◌+◌, ◌-◌, ◌*◌, ◌/◌, ◌%◌, min, Bool, cond, not, ◌&&◌, List, length, Some, None, Option, nat_le}
+use Rattle.std.specs.Prelude.{ℕ, ◌+◌, ◌*◌, ◌/◌, ◌%◌, cond, not, ◌&&◌, List, Some, None, Option, nat_le}
 use Rattle.std.specs.Option.{unwrap_or}
 use Rattle.language.specs.Meaning.{symbol_at}
 use Rattle.models.specs.declared.tables.Sets.{Sets}
-use Rattle.models.specs.Bitsets.{bit}
-use Rattle.models.specs.Stepping.{set_after, can_end}
+use Rattle.models.specs.Stepping.{positions, can_follow, can_end}
 use Rattle.tables.specs.Tables.{Table}
 use Rattle.walk.specs.Graph.{LabelledGraph}
-
--- how many positions there are: of more than 64 symbols, only the first 64 count
-abbrev pub positions : {S : Type 0} → List S → ℕ
-positions xs = min (length xs) 64
-
--- whether position y may come after state x of the model, of n positions
-abbrev pub can_follow : Sets → List ℕ → ℕ → ℕ → ℕ → Bool
-can_follow s rows n x y = nat_le 1 y && (nat_le y n && bit (set_after s rows n x) (y - 1))
 
 module _ {S : Type 0} (t : Table S) where
   -- the reader's state after a symbol, from state y; where the symbol does not lead on, the reader is stuck, which counts as the state past its last

@@ -11,7 +11,8 @@ use Rattle.models.specs.Stepping.{set_after}
 use Rattle.models.proofs.Bitsets.{none_bit}
 use Rattle.tables.specs.Tables.{Table, Sound}
 use Rattle.walk.specs.Graph.{Sound as SoundGraph}
-use Rattle.product.specs.Pairs.{positions, can_follow, after, node, model_state, reader_state, product}
+use Rattle.models.specs.Stepping.{positions, can_follow}
+use Rattle.product.specs.Pairs.{after, node, model_state, reader_state, product}
 
 pub goes_parts : (b : Bool) (o z : ℕ) → cond b (Some o) None ≡ Some z → (b ≡ true) × (o ≡ z)
 goes_parts true o z e = (refl, cc)

@@ -15,11 +15,3 @@ module _ {S : Type 0} (same : S → S → Bool) where
   stands_past [] x a h = refl
   stands_past (b ∷ word) zero a h = absurd (omega arith)
   stands_past (b ∷ word) (suc x) a h = stands_past word x a (omega arith)
-
-  stands_alike : {foreign : S → Bool} → KindLaws same foreign → (word : List S) (x : ℕ) (a b : S) → same a b ≡ true → stands same word x a ≡ stands same word x b
-  stands_alike k [] x a b e = refl
-  stands_alike {foreign} k (s ∷ word) zero a b e = same_right same foreign k s a b e
-  stands_alike k (s ∷ word) (suc x) a b e = stands_alike k word x a b e
-
-  pub one_word_alike : {foreign : S → Bool} → KindLaws same foreign → (word : List S) → Alike same (one_word_table same word)
-  one_word_alike k word x a b e = ap (λ t. cond (ltb x 4095 && t) (Some (x + 1)) None) (stands_alike k word x a b e)

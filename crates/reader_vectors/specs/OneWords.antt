@@ -1,8 +1,10 @@
 -- The table of a reader that takes one word. Assumes nothing.
 use Rattle.std.specs.Prelude.{◌≡◌, ℕ, zero, suc, ◌+◌, ◌<◌, min, Bool, true, false, cond, ◌&&◌, List, [], ◌∷◌, length, Some, None, ◌==◌, nat_lt, refl}
-use Rattle.std.proofs.Common.{arith}
+use Rattle.std.proofs.Common.{ap, arith}
 use Rattle.std.proofs.lemmas.Bool.{eqb-true, ltb-true, and_parts, false≢true}
-use Rattle.tables.specs.Tables.{Table, Sound}
+use Rattle.symbols.specs.Kinds.{KindLaws}
+use Rattle.tables.specs.Tables.{Table, Sound, Alike}
+use Rattle.tables.proofs.PlaceLaws.{same_right}
 
 -- whether a symbol stands at x, counted from 0, that is the same as a
 abbrev pub stands : {S : Type 0} → (S → S → Bool) → List S → ℕ → S → Bool
@@ -45,3 +47,12 @@ module _ {S : Type 0} (same : S → S → Bool) (word : List S) where
     leaves = λ x y a e. let g = goes_on x y a e in omega (arith, g.0, g.1);
     lands = λ x y a e. let g = goes_on x y a e in omega (arith, g.0, g.1, g.2);
   }
+
+module _ {S : Type 0} (same : S → S → Bool) where
+  stands_alike : {foreign : S → Bool} → KindLaws same foreign → (word : List S) (x : ℕ) (a b : S) → same a b ≡ true → stands same word x a ≡ stands same word x b
+  stands_alike k [] x a b e = refl
+  stands_alike {foreign} k (s ∷ word) zero a b e = same_right same foreign k s a b e
+  stands_alike k (s ∷ word) (suc x) a b e = stands_alike k word x a b e
+
+  pub one_word_alike : {foreign : S → Bool} → KindLaws same foreign → (word : List S) → Alike same (one_word_table same word)
+  one_word_alike k word x a b e = ap (λ t. cond (nat_lt x 4095 && t) (Some (x + 1)) None) (stands_alike k word x a b e)

@@ -2,7 +2,7 @@
 #![tactic(auto)]
 
 ghost use Rattle.std.specs.Prelude.{◌≡◌};
-ghost use Rattle.reader_vectors.specs.OneWords.{stands, one_word_table, one_word_sound};
+ghost use Rattle.reader_vectors.specs.OneWords.{stands, one_word_table, one_word_sound, one_word_alike};
 
 use readers::Reader;
 use symbols::Symbol;
@@ -29,6 +29,7 @@ impl<'a, S> OneWord<'a, S> {
 fn stands<S: Symbol>(word: &[S], at: usize, symbol: &S) -> bool
     ensures { result ≡ stands S.Symbol.same word.now at symbol.now }
 {
+    // No `get` and `is_some_and`: tried, and the search did not read what the closure answers off its call.
     at < word.len() && word[at].same(symbol)
 }
 
@@ -37,7 +38,7 @@ impl<'a, S: Symbol> Reader<S> for OneWord<'a, S> {
 
     ghost sound = { λ r. one_word_sound S.Symbol.same r.word.now };
 
-    fn alike(&self) {}
+    ghost alike = { λ r. one_word_alike S.Symbol.same S.Symbol.laws r.word.now };
 
     fn states(&self) -> u16 {
         self.word.len().min(4095) as u16 + 1
@@ -48,14 +49,10 @@ impl<'a, S: Symbol> Reader<S> for OneWord<'a, S> {
     }
 
     fn is_ending(&self, state: u16) -> bool {
-        state as usize == self.word.len().min(4095)
+        usize::from(state) == self.word.len().min(4095)
     }
 
     fn step(&self, state: u16, symbol: &S) -> Option<u16> {
-        if state < 4095 && stands(self.word, state as usize, symbol) {
-            Some(state + 1)
-        } else {
-            None
-        }
+        (state < 4095 && stands(self.word, usize::from(state), symbol)).then(|| state + 1)
     }
 }

@@ -6,12 +6,13 @@ use readers::{Reader, takes};
 use symbols::cue_rows::CueRow;
 use symbols::name_rows::NameRow;
 
+fn cue(status: u8, datum: u8) -> CueRow {
+    CueRow { status, datum }
+}
+
 #[test]
 fn greatest_limit_over_65_states(rt: HostRuntime) {
-    let word = [CueRow {
-        status: 144,
-        datum: 60,
-    }; 64];
+    let word = [cue(144, 60); 64];
     let reader = OneWord::new(&word);
     assert!(rt; reader.states() == 65);
     assert!(rt; Limit::fit(&reader, 62) == Ok(()));
@@ -38,11 +39,12 @@ fn states_of_a_limit(rt: HostRuntime) {
     let layer = Limit::new(OneWord::new(&model), 1);
     assert!(rt; layer.states() == 4);
     assert!(rt; layer.start() == 0);
-    assert!(rt; layer.step(0, &a) == Some(3));
-    assert!(rt; layer.is_ending(3));
-    assert!(rt; layer.step(2, &a) == None);
-    assert!(rt; !layer.is_ending(5));
-    assert!(rt; layer.step(4, &a) == None);
+    for (state, next) in [(0, Some(3)), (2, None), (4, None)] {
+        assert!(rt; layer.step(state, &a) == next);
+    }
+    for (state, ending) in [(3, true), (5, false)] {
+        assert!(rt; layer.is_ending(state) == ending);
+    }
 }
 
 #[test]
@@ -58,29 +60,8 @@ fn states_of_skip(rt: HostRuntime) {
 
 #[test]
 fn cues_of_any_channel(rt: HostRuntime) {
-    let model = [CueRow {
-        status: 144,
-        datum: 60,
-    }];
+    let model = [cue(144, 60)];
     let layer = Skip::new(OneWord::new(&model));
-    let word = [
-        CueRow {
-            status: 176,
-            datum: 102,
-        },
-        CueRow {
-            status: 151,
-            datum: 60,
-        },
-    ];
-    assert!(rt; takes(&layer, &word));
-    assert!(rt;
-        !takes(
-            &layer,
-            &[CueRow {
-                status: 144,
-                datum: 61,
-            }],
-        )
-    );
+    assert!(rt; takes(&layer, &[cue(176, 102), cue(151, 60)]));
+    assert!(rt; !takes(&layer, &[cue(144, 61)]));
 }

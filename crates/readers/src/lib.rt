@@ -19,10 +19,6 @@ pub trait Reader<S: Symbol> {
     // The table's start, endings and steps stay within its states.
     ghost sound: { (r : Self) → Sound (table r) };
 
-    /// Same symbols lead alike. Does nothing: what it ensures is a law of the reader.
-    fn alike(&self)
-        ensures { Alike S.Symbol.same (table self.now) };
-
     /// How many states there are.
     fn states(&self) -> u16
         ensures { result ≡ (table self.now).states };
@@ -38,6 +34,9 @@ pub trait Reader<S: Symbol> {
     /// The state, if any, to which the symbol leads from the state.
     fn step(&self, state: u16, symbol: &S) -> Option<u16>
         ensures { result ≡ (table self.now).goes state symbol.now };
+
+    // Same symbols lead alike.
+    ghost alike: { (r : Self) → Alike S.Symbol.same (table r) };
 }
 
 /// Whether the reader takes the word: its symbols lead from the start to an ending.

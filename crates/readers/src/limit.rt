@@ -1,7 +1,7 @@
 // The layer that takes at most so many symbols.
 ghost use Rattle.std.specs.Prelude.{◌≡◌, ◌≤◌};
 ghost use Rattle.tables.specs.Layers.{Greatest, greatest, held, limited};
-ghost use Rattle.tables.proofs.Limits.{limited_sound};
+ghost use Rattle.tables.proofs.Limits.{limited_sound, limit_alike};
 ghost use Rattle.readers.specs.Fit.{fit_answer};
 
 use super::Reader;
@@ -30,7 +30,7 @@ fn held(states: u16, asked: usize) -> u16
     requires { (1 ≤ states) × (states ≤ 4096) }
     ensures { result ≡ held states asked }
 {
-    asked.min(greatest(states) as usize) as u16
+    asked.min(usize::from(greatest(states))) as u16
 }
 
 impl<R> Limit<R> {
@@ -42,7 +42,7 @@ impl<R> Limit<R> {
         ensures answers { result ≡ fit_answer (R.Reader.table below.now).states limit }
         ensures greatest { Greatest (R.Reader.table below.now).states (greatest (R.Reader.table below.now).states) }
     {
-        let greatest = greatest(below.states()) as usize;
+        let greatest = usize::from(greatest(below.states()));
         if limit <= greatest {
             Ok(())
         } else {
@@ -66,7 +66,7 @@ impl<R> Limit<R> {
         R: Reader<S>,
         ensures { result ≡ held (R.Reader.table self.now.below).states self.now.asked }
     {
-        held(self.below.states(), self.asked) as usize
+        usize::from(held(self.below.states(), self.asked))
     }
 }
 
@@ -75,9 +75,7 @@ impl<S: Symbol, R: Reader<S>> Reader<S> for Limit<R> {
 
     ghost sound = { λ r. limited_sound r.asked (R.Reader.table r.below) (R.Reader.sound r.below) };
 
-    fn alike(&self) {
-        self.below.alike()
-    }
+    ghost alike = { λ r. limit_alike (held (R.Reader.table r.below).states r.asked) (R.Reader.table r.below) (R.Reader.alike r.below) };
 
     fn states(&self) -> u16 {
         let below = self.below.states();
@@ -98,9 +96,7 @@ impl<S: Symbol, R: Reader<S>> Reader<S> for Limit<R> {
         if state >= below * held(below, self.asked) {
             return None;
         }
-        match self.below.step(state % below, symbol) {
-            Some(next) => Some((state / below + 1) * below + next),
-            None => None,
-        }
+        let next = self.below.step(state % below, symbol)?;
+        Some((state / below + 1) * below + next)
     }
 }

@@ -1,7 +1,7 @@
 // The layer that passes over foreign symbols.
 ghost use Rattle.std.specs.Prelude.{◌≡◌};
 ghost use Rattle.tables.specs.Layers.{skip_table};
-ghost use Rattle.tables.proofs.Laws.{skip_sound};
+ghost use Rattle.tables.proofs.Laws.{skip_sound, skip_alike};
 
 use super::Reader;
 use symbols::Symbol;
@@ -26,9 +26,7 @@ impl<S: Symbol, R: Reader<S>> Reader<S> for Skip<R> {
 
     ghost sound = { λ r. skip_sound S.Symbol.foreign (R.Reader.table r.below) (R.Reader.sound r.below) };
 
-    fn alike(&self) {
-        self.below.alike()
-    }
+    ghost alike = { λ r. skip_alike S.Symbol.foreign (R.Reader.table r.below) (R.Reader.alike r.below) S.Symbol.laws };
 
     fn states(&self) -> u16 {
         self.below.states()
@@ -43,12 +41,10 @@ impl<S: Symbol, R: Reader<S>> Reader<S> for Skip<R> {
     }
 
     fn step(&self, state: u16, symbol: &S) -> Option<u16> {
-        if !symbol.foreign() {
-            self.below.step(state, symbol)
-        } else if state < self.below.states() {
-            Some(state)
+        if symbol.foreign() {
+            (state < self.below.states()).then_some(state)
         } else {
-            None
+            self.below.step(state, symbol)
         }
     }
 }

@@ -1,115 +1,84 @@
 // What is done for a line, and told of it.
 use crate::bench::Bench;
-use crate::commands::{Command, is_remark, read_command};
-use crate::report::Report;
-use comparison::Answer;
+use crate::commands::{Command, Unread};
 use faults::Fault;
-use std::alloc::AllocError;
+use models::trials::Trial;
+use std::alloc::Global;
+use std::io;
+use std::io::Write;
 use symbols::Printable;
-use symbols::cue_rows::CueRow;
-use symbols::cues::Cue;
+use thiserror::Error;
 
-/// The fault of the first row that is no cue.
-fn wrong_row(rows: &[CueRow]) -> Option<Fault> {
-    for row in rows {
-        if let Err(fault) = Cue::new(row.status, row.datum) {
-            return Some(fault);
-        }
-    }
-    None
+/// Why a command has no answer.
+#[derive(Debug, Drop, Error)]
+enum Stop {
+    #[error(transparent)]
+    Refused(#[from] Fault),
+    #[error(transparent)]
+    Output(#[from] io::Error),
 }
 
-/// The fault of a command's first row that is no cue.
-fn wrong_cue(command: &Command) -> Option<Fault> {
-    match command {
-        Command::Load { cues, .. } => wrong_row(cues.as_slice()),
-        Command::Try { cues, .. } => wrong_row(cues.as_slice()),
-        Command::Withdraw { .. } => None,
-        Command::Compare { .. } => None,
-    }
+/// Whether a line is blank or begins with `#`, so that it asks for nothing.
+fn is_remark(line: &str) -> bool {
+    let line = line.trim_ascii_start();
+    line.is_empty() || line.starts_with('#')
 }
 
-/// Does what a command asks for, if its rows are cues.
-fn perform(bench: &mut Bench, command: &Command) -> Result<Answer, AllocError> {
-    match wrong_cue(command) {
-        Some(fault) => Ok(Answer::Refused(fault)),
-        None => bench.perform(command),
-    }
-}
-
-/// Tells what a command asks for; gives the place that it is about.
-fn tell_command(report: &mut Report, command: &Command) -> Result<usize, AllocError> {
-    let heap = report.heap();
-    match command {
-        Command::Load { place, .. } => {
-            report.put(format!(in heap; "load {place}: ")?.as_bytes())?;
-            Ok(*place)
-        }
-        Command::Withdraw { place } => {
-            report.put(format!(in heap; "withdraw {place}: ")?.as_bytes())?;
-            Ok(*place)
-        }
-        Command::Try { place, .. } => {
-            report.put(format!(in heap; "try {place}: ")?.as_bytes())?;
-            Ok(*place)
-        }
-        Command::Compare { place, other } => {
-            report.put(format!(in heap; "compare {place} in {other}: ")?.as_bytes())?;
-            Ok(*place)
-        }
-    }
-}
-
-/// Tells the word that a comparison has missed.
-fn tell_missed(
-    bench: &Bench,
-    report: &mut Report,
-    place: usize,
-    length: usize,
-) -> Result<(), AllocError> {
-    report.put(format!(in report.heap(); "not, {length} symbols:")?.as_bytes())?;
+/// Tells the word of a place that a comparison has missed.
+fn tell_missed(bench: &Bench, out: &mut impl Write, place: usize, length: usize) -> io::Result<()> {
+    write!(out, "not, {length} symbols:")?;
     for position in bench.positions().iter().take(length) {
         if let Some(cue) = bench.symbol(place, *position) {
-            report.put(b" ")?;
-            report.put(cue.written().text())?;
+            out.write_all(b" ")?;
+            out.write_all(cue.written().text())?;
         }
     }
-    report.put(b"\n")
+    writeln!(out)
 }
 
-/// Tells the answer to a call on a place.
-fn tell(
-    bench: &Bench,
-    report: &mut Report,
-    place: usize,
-    answer: Answer,
-) -> Result<(), AllocError> {
-    match answer {
-        Answer::Done => report.line("done"),
-        Answer::Yes => report.line("yes"),
-        Answer::No { longest } => report.line(format!(in report.heap(); "no, {longest}")?.as_str()),
-        Answer::Included => report.line("included"),
-        Answer::Missed { length } => tell_missed(bench, report, place, length),
-        Answer::Refused(fault) => report.line(format!(in report.heap(); "{fault}")?.as_str()),
+/// Does what a command asks for, and tells the answer.
+fn perform(bench: &mut Bench, out: &mut impl Write, command: &Command) -> Result<(), Stop> {
+    match command {
+        Command::Load { place, codes, cues } => {
+            bench.load(*place, codes, cues)?;
+            writeln!(out, "done")?;
+        }
+        Command::Withdraw { place } => {
+            bench.withdraw(*place)?;
+            writeln!(out, "done")?;
+        }
+        Command::Try { place, cues } => match bench.trial(*place, cues)? {
+            Trial::Yes => writeln!(out, "yes")?,
+            Trial::No { longest } => writeln!(out, "no, {longest}")?,
+        },
+        Command::Compare { place, other } => match bench.compare(*place, *other)? {
+            None => writeln!(out, "included")?,
+            Some(length) => tell_missed(bench, out, *place, length)?,
+        },
     }
+    Ok(())
 }
 
 /// Answers one line: nothing to a remark, and one line to any other.
 pub(crate) fn answer(
+    heap: Global,
     bench: &mut Bench,
-    report: &mut Report,
+    out: &mut impl Write,
     number: usize,
     line: &str,
-) -> Result<(), AllocError> {
+) -> io::Result<()> {
     if is_remark(line) {
         return Ok(());
     }
-    match read_command(report.heap(), line)? {
-        Some(command) => {
-            let place = tell_command(report, &command)?;
-            let answer = perform(bench, &command)?;
-            tell(bench, report, place, answer)
-        }
-        None => report.line(format!(in report.heap(); "line {number}: not a command")?.as_str()),
+    let command = match Command::read(heap, line) {
+        Ok(command) => command,
+        Err(Unread::Memory(error)) => return Err(error.into()),
+        Err(unread) => return writeln!(out, "line {number}: {unread}"),
+    };
+    write!(out, "{command}: ")?;
+    match perform(bench, out, &command) {
+        Ok(()) => Ok(()),
+        Err(Stop::Refused(fault)) => writeln!(out, "{fault}"),
+        Err(Stop::Output(error)) => Err(error),
     }
 }

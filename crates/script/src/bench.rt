@@ -1,148 +1,90 @@
 // A shelf of cues, with the lists that are lent to its calls.
-use crate::commands::Command;
-use comparison::{Answer, Call, replay};
-use readers::Reader;
-use shelf::{CELLS, PLACES, Shelf};
+use comparison::compare;
+use faults::Fault;
+use models::trials::Trial;
+use shelf::{CELLS, MOST_PAIRS, PLACES, Shelf};
 use std::alloc::{AllocError, Global};
-use std::slice::from_ref;
 use symbols::cue_rows::CueRow;
-
-/// A model has at most 65 states, and the reader of a place at most 65 and one where it is stuck.
-const PAIRS: usize = 65 * 66;
+use symbols::cues::Cue;
 
 /// A shelf and its lists, long enough for every place and every comparison.
+// Lists on the heap, which a program may take, and each call by itself: a slip's desk is a library's, so it has arrays, and goes through
+// `replay`, since what `compare` prints rests on the promise of that.
 #[derive(Drop)]
-pub struct Bench {
+pub(crate) struct Bench {
     shelf: Shelf,
     symbols: Vec<CueRow>,
     numbers: Vec<u64>,
     work: Vec<u32>,
     word: Vec<u16>,
-    heap: Global,
 }
 
-/// So many cells with this item.
-fn filled<T: Copy>(heap: Global, item: T, cells: usize) -> Result<Vec<T>, AllocError> {
-    let mut list = Vec::new(heap);
-    for _ in 0..cells {
-        list.push(item)?;
+/// Refuses the first row that is no cue.
+fn check_cues(rows: &[CueRow]) -> Result<(), Fault> {
+    for row in rows {
+        Cue::new(row.status, row.datum)?;
     }
-    Ok(list)
-}
-
-/// The same items.
-fn copied<T: Copy>(heap: Global, items: &[T]) -> Result<Vec<T>, AllocError> {
-    let mut list = Vec::new(heap);
-    for item in items {
-        list.push(*item)?;
-    }
-    Ok(list)
-}
-
-/// The place with whose reader a command compares, or none.
-fn compared_with(command: &Command) -> usize {
-    match command {
-        Command::Compare { other, .. } => *other,
-        _ => PLACES,
-    }
-}
-
-/// The call that a command asks for; a comparison is with this reader.
-fn request<'x, R>(command: &'x Command, reader: &'x R) -> Call<'x, CueRow, R> {
-    match command {
-        Command::Load { place, codes, cues } => Call::Load {
-            place: *place,
-            codes: codes.as_slice(),
-            symbols: cues.as_slice(),
-        },
-        Command::Withdraw { place } => Call::Withdraw { place: *place },
-        Command::Try { place, cues } => Call::Trial {
-            place: *place,
-            word: cues.as_slice(),
-        },
-        Command::Compare { place, .. } => Call::Compare {
-            place: *place,
-            reader,
-        },
-    }
-}
-
-/// Makes the call that a command asks for over these lists; a comparison is with this reader.
-fn make<'x, R: Reader<CueRow>>(
-    shelf: &mut Shelf,
-    symbols: &mut Vec<CueRow>,
-    numbers: &mut Vec<u64>,
-    work: &mut Vec<u32>,
-    word: &mut Vec<u16>,
-    command: &'x Command,
-    reader: &'x R,
-) -> Answer {
-    let request = request(command, reader);
-    let mut answers = [Answer::Done];
-    let _room = replay(
-        shelf,
-        symbols.as_mut_slice(),
-        numbers.as_mut_slice(),
-        work.as_mut_slice(),
-        word.as_mut_slice(),
-        from_ref(&request),
-        &mut answers,
-    );
-    answers[0]
+    Ok(())
 }
 
 impl Bench {
     /// An empty shelf.
     pub(crate) fn new(heap: Global) -> Result<Bench, AllocError> {
-        let nothing = CueRow {
-            status: 0,
-            datum: 0,
-        };
-        let symbols = filled(heap, nothing, PLACES * CELLS)?;
-        let numbers = filled(heap, 0, PLACES * CELLS)?;
-        let work = filled(heap, 0, 2 * PAIRS)?;
-        let word = filled(heap, 0, PAIRS)?;
         Ok(Bench {
             shelf: Shelf::new(),
-            symbols,
-            numbers,
-            work,
-            word,
-            heap,
+            symbols: vec![in heap; CueRow::default(); PLACES * CELLS]?,
+            numbers: vec![in heap; 0; PLACES * CELLS]?,
+            work: vec![in heap; 0; 2 * MOST_PAIRS]?,
+            word: vec![in heap; 0; MOST_PAIRS]?,
         })
     }
 
-    /// Does what a command asks for. The reader of a comparison reads copies of the lists, since calls write the lists themselves.
-    pub(crate) fn perform(&mut self, command: &Command) -> Result<Answer, AllocError> {
-        let symbols = copied(self.heap, self.symbols.as_slice())?;
-        let numbers = copied(self.heap, self.numbers.as_slice())?;
-        let reader = self.shelf.reader(
-            symbols.as_slice(),
-            numbers.as_slice(),
-            compared_with(command),
-        );
-        Ok(make(
-            &mut self.shelf,
-            &mut self.symbols,
-            &mut self.numbers,
+    /// Loads the model of these codes and cues.
+    pub(crate) fn load(
+        &mut self,
+        place: usize,
+        codes: &[u8],
+        cues: &[CueRow],
+    ) -> Result<(), Fault> {
+        check_cues(cues)?;
+        self.shelf
+            .load(&mut self.symbols, &mut self.numbers, place, codes, cues)
+    }
+
+    /// Withdraws what a place holds.
+    pub(crate) fn withdraw(&mut self, place: usize) -> Result<(), Fault> {
+        self.shelf.withdraw(&self.symbols, &self.numbers, place)
+    }
+
+    /// Tries a word on what a place holds.
+    pub(crate) fn trial(&self, place: usize, word: &[CueRow]) -> Result<Trial, Fault> {
+        check_cues(word)?;
+        self.shelf.trial(&self.symbols, &self.numbers, place, word)
+    }
+
+    /// Compares what a place holds with the reader of another.
+    pub(crate) fn compare(&mut self, place: usize, other: usize) -> Result<Option<usize>, Fault> {
+        let reader = self.shelf.reader(&self.symbols, &self.numbers, other);
+        compare(
+            &self.shelf,
+            &self.symbols,
+            &self.numbers,
+            place,
+            &reader,
             &mut self.work,
             &mut self.word,
-            command,
-            &reader,
-        ))
+        )
     }
 
     /// The positions that the last comparison has told.
     pub(crate) fn positions(&self) -> &[u16] {
-        self.word.as_slice()
+        &self.word
     }
 
     /// The symbol of a position of what a place holds.
     pub(crate) fn symbol(&self, place: usize, position: u16) -> Option<CueRow> {
-        let model = self
-            .shelf
-            .reader(self.symbols.as_slice(), self.numbers.as_slice(), place);
+        let model = self.shelf.reader(&self.symbols, &self.numbers, place);
         let at = usize::from(position).checked_sub(1)?;
-        model.symbols.get(at).copied()
+        model.automaton.symbols.get(at).copied()
     }
 }

@@ -1,10 +1,14 @@
 // The commands of a script, as they are written.
 use std::alloc::{AllocError, Global};
+use std::fmt;
+use std::num::ParseIntError;
+use std::str::FromStr;
 use symbols::cue_rows::CueRow;
+use thiserror::Error;
 
 /// What a line asks for.
 #[derive(Drop)]
-pub enum Command {
+pub(crate) enum Command {
     /// `load 0 1,1,4,2 90.3c 80.3c`: loads the model of these codes and cues into place 0.
     Load {
         place: usize,
@@ -27,144 +31,83 @@ pub enum Command {
     },
 }
 
-/// The number of these decimal digits.
-fn number(word: &str) -> Option<usize> {
-    let mut n = 0usize;
-    for byte in word.as_bytes() {
-        let digit = match *byte {
-            b'0'..=b'9' => usize::from(*byte - b'0'),
-            _ => return None,
-        };
-        n = n.checked_mul(10)?.checked_add(digit)?;
-    }
-    if word.is_empty() { None } else { Some(n) }
+/// Why a line gives no command.
+#[derive(Debug, Drop, Error)]
+pub(crate) enum Unread {
+    #[error("not a command")]
+    NotCommand,
+    #[error(transparent)]
+    Memory(#[from(alloc)] AllocError),
 }
 
-/// The value of a hexadecimal digit.
-fn digit(byte: u8) -> Option<u8> {
-    match byte {
-        b'0'..=b'9' => Some(byte - b'0'),
-        b'a'..=b'f' => Some(byte - b'a' + 10),
-        b'A'..=b'F' => Some(byte - b'A' + 10),
-        _ => None,
+/// The number of these decimal digits; a sign is none.
+fn number<N: FromStr<Err = ParseIntError>>(digits: &str) -> Result<N, Unread> {
+    if digits.starts_with('+') {
+        return Err(Unread::NotCommand);
     }
+    digits.parse().map_err(|_| Unread::NotCommand)
 }
 
-/// The byte of two hexadecimal digits.
-fn byte(high: u8, low: u8) -> Option<u8> {
-    Some(digit(high)?.wrapping_mul(16) | digit(low)?)
+/// The byte of two hexadecimal digits; a sign is none.
+fn byte(digits: &str) -> Result<u8, Unread> {
+    if digits.len() != 2 || digits.starts_with('+') {
+        return Err(Unread::NotCommand);
+    }
+    u8::from_str_radix(digits, 16).map_err(|_| Unread::NotCommand)
 }
 
 /// The cue of two such bytes with a point between.
-fn cue(word: &str) -> Option<CueRow> {
-    let [a, b, b'.', c, d] = word.as_bytes() else {
-        return None;
-    };
-    Some(CueRow {
-        status: byte(*a, *b)?,
-        datum: byte(*c, *d)?,
+fn cue(word: &str) -> Result<CueRow, Unread> {
+    let (status, datum) = word.split_once('.').ok_or(Unread::NotCommand)?;
+    Ok(CueRow {
+        status: byte(status)?,
+        datum: byte(datum)?,
     })
 }
 
-/// The cues of the words from this one on; `None` where one is no cue.
-fn cues(heap: Global, line: &str, from: usize) -> Result<Option<Vec<CueRow>>, AllocError> {
-    let mut found = Vec::new(heap);
-    for word in line.split_ascii_whitespace().skip(from) {
-        match cue(word) {
-            Some(row) => found.push(row)?,
-            None => return Ok(None),
+/// The cues of these words.
+fn cues(heap: Global, words: &[&str]) -> Result<Vec<CueRow>, Unread> {
+    words.iter().map(|word| cue(word)).try_collect(heap)
+}
+
+/// The codes of a word, with commas between.
+fn codes(heap: Global, word: &str) -> Result<Vec<u8>, Unread> {
+    word.split(',').map(|code| number(code)).try_collect(heap)
+}
+
+impl Command {
+    /// The command of a line.
+    pub(crate) fn read(heap: Global, line: &str) -> Result<Command, Unread> {
+        let words: Vec<&str> = line.split_ascii_whitespace().collect(heap)?;
+        match words.as_slice() {
+            ["load", place, code, rest @ ..] => Ok(Command::Load {
+                place: number(place)?,
+                codes: codes(heap, code)?,
+                cues: cues(heap, rest)?,
+            }),
+            ["withdraw", place] => Ok(Command::Withdraw {
+                place: number(place)?,
+            }),
+            ["try", place, rest @ ..] => Ok(Command::Try {
+                place: number(place)?,
+                cues: cues(heap, rest)?,
+            }),
+            ["compare", place, other] => Ok(Command::Compare {
+                place: number(place)?,
+                other: number(other)?,
+            }),
+            _ => Err(Unread::NotCommand),
         }
     }
-    Ok(Some(found))
 }
 
-/// A code: a number that a byte holds.
-fn code(word: &str) -> Option<u8> {
-    u8::try_from(number(word)?).ok()
-}
-
-/// The codes of a word, with commas between; `None` where one is no code.
-fn codes(heap: Global, word: &str) -> Result<Option<Vec<u8>>, AllocError> {
-    let mut found = Vec::new(heap);
-    for part in word.split(',') {
-        match code(part) {
-            Some(code) => found.push(code)?,
-            None => return Ok(None),
+impl fmt::Display for Command {
+    fn fmt<W: fmt::Write>(&self, f: &mut fmt::Formatter<W>) -> fmt::Result {
+        match self {
+            Command::Load { place, .. } => write!(f, "load {place}"),
+            Command::Withdraw { place } => write!(f, "withdraw {place}"),
+            Command::Try { place, .. } => write!(f, "try {place}"),
+            Command::Compare { place, other } => write!(f, "compare {place} in {other}"),
         }
-    }
-    Ok(Some(found))
-}
-
-/// The word of a line with this number, from 0 on.
-fn word(line: &str, at: usize) -> &str {
-    line.split_ascii_whitespace().nth(at).unwrap_or("")
-}
-
-/// The place that a word of a line names.
-fn place(line: &str, at: usize) -> Option<usize> {
-    number(word(line, at))
-}
-
-/// Whether a line has so many words.
-fn has_words(line: &str, count: usize) -> bool {
-    line.split_ascii_whitespace().count() == count
-}
-
-/// Whether a line is blank or begins with `#`, so that it asks for nothing.
-pub(crate) fn is_remark(line: &str) -> bool {
-    match word(line, 0).as_bytes() {
-        [] => true,
-        [first, ..] => *first == b'#',
-    }
-}
-
-fn load(heap: Global, line: &str) -> Result<Option<Command>, AllocError> {
-    let Some(place) = place(line, 1) else {
-        return Ok(None);
-    };
-    let Some(codes) = codes(heap, word(line, 2))? else {
-        return Ok(None);
-    };
-    let Some(cues) = cues(heap, line, 3)? else {
-        return Ok(None);
-    };
-    Ok(Some(Command::Load { place, codes, cues }))
-}
-
-fn withdraw(line: &str) -> Option<Command> {
-    if !has_words(line, 2) {
-        return None;
-    }
-    let place = place(line, 1)?;
-    Some(Command::Withdraw { place })
-}
-
-fn attempt(heap: Global, line: &str) -> Result<Option<Command>, AllocError> {
-    let Some(place) = place(line, 1) else {
-        return Ok(None);
-    };
-    let Some(cues) = cues(heap, line, 2)? else {
-        return Ok(None);
-    };
-    Ok(Some(Command::Try { place, cues }))
-}
-
-fn compare(line: &str) -> Option<Command> {
-    if !has_words(line, 3) {
-        return None;
-    }
-    let other = place(line, 2)?;
-    let place = place(line, 1)?;
-    Some(Command::Compare { place, other })
-}
-
-/// The command of a line, if it is one.
-pub(crate) fn read_command(heap: Global, line: &str) -> Result<Option<Command>, AllocError> {
-    match word(line, 0).as_bytes() {
-        b"load" => load(heap, line),
-        b"withdraw" => Ok(withdraw(line)),
-        b"try" => attempt(heap, line),
-        b"compare" => Ok(compare(line)),
-        _ => Ok(None),
     }
 }

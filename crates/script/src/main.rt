@@ -4,11 +4,9 @@
 mod answering;
 mod bench;
 mod commands;
-mod report;
 
 use answering::answer;
 use bench::Bench;
-use report::Report;
 use std::env;
 use std::io::Write;
 use std::process::ExitCode;
@@ -18,17 +16,21 @@ const USAGE: &str =
 
 fn run(rt: &HostRuntime) -> anyhow::Result<()> {
     let mut bench = Bench::new(rt.alloc())?;
-    let mut number = 0usize;
-    for line in rt.lines(rt.alloc()) {
-        number = number.saturating_add(1);
-        let line = line?;
-        let mut report = Report::new(rt.alloc());
-        answer(&mut bench, &mut report, number, line.as_str())?;
-        rt.stdout().write_all(report.bytes())?;
+    for (k, line) in rt.lines(rt.alloc()).enumerate() {
+        let mut told = Vec::new(rt.alloc());
+        answer(
+            rt.alloc(),
+            &mut bench,
+            &mut told,
+            k.saturating_add(1),
+            &line?,
+        )?;
+        rt.stdout().write_all(&told)?;
     }
     Ok(())
 }
 
+// These lines stand in each program that takes no argument: a crate for them would be no plainer.
 fn main(rt: HostRuntime) -> anyhow::Result<ExitCode> {
     if env::args(&rt)?.count() > 1 {
         println!(rt; "{USAGE}")?;

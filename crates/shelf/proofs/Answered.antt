@@ -1,5 +1,5 @@
 -- Each call has one answer, and leaves one state. Assumes nothing.
-use Rattle.std.proofs.Common.{◌≡◌, ℕ, Bool, true, false, List, [], ◌++◌, length, get_or, drop, Some, None, Ok, Err, Option, Result, sym, refl, ap, ◌∙◌, subst, ⊎_elim, arith}
+use Rattle.std.proofs.Common.{◌≡◌, ℕ, Bool, true, false, List, [], ◌++◌, length, get_or, drop, Some, None, Ok, Err, Option, Result, sym, refl, ap, ◌∙◌, subst, ⊎_elim, arith, is_some}
 use Rattle.std.proofs.lemmas.List.{take_all, drop_all, append-nil}
 use Rattle.std.proofs.lemmas.Bool.{cases_eq}
 use Rattle.faults.specs.declared.Fault.{Fault}
@@ -10,9 +10,8 @@ use Rattle.models.specs.declared.trials.Trial.{Trial}
 use Rattle.models.specs.TablesOf.{SetsOf, Made}
 use Rattle.models.specs.Told.{Flawed, refused, ambiguous}
 use Rattle.models.proofs.Answered.{one_answer}
-use Rattle.shelf.specs.declared.records.Record.{Record}
-use Rattle.shelf.specs.declared.records.Record.TheVariants.{Empty, Taken}
-use Rattle.shelf.specs.Places.{State, placed, record_at, is_taken, has, HoldsAt}
+use Rattle.shelf.specs.declared.records.Summary.{Summary}
+use Rattle.shelf.specs.Places.{State, placed, record_at, has, HoldsAt}
 use Rattle.shelf.specs.Calls.{Done, Judges, LoadEnds, Unchanged, Freed, Put, WithdrawWrites, LoadWrites, TriesAt}
 use Rattle.shelf.specs.Theorems.{SameRecord, SameState, OneAnswer}
 use Rattle.shelf.proofs.Refining.{ok_err}
@@ -44,11 +43,11 @@ module _ {S : Type 0} (same : S → S → Bool) where
   one_end true true p m r q h k = h ∙ sym k
   one_end true false p m r q h k = one_judgement m r q h k
 
-  own_record : (found : Record) → SameRecord same found found
-  own_record Empty = tt
-  own_record (Taken t) = (refl, refl)
+  own_record : (found : Option Summary) → SameRecord same found found
+  own_record None = tt
+  own_record (Some t) = (refl, refl)
 
-  equal_records : (x y : Record) → x ≡ y → SameRecord same x y
+  equal_records : (x y : Option Summary) → x ≡ y → SameRecord same x y
   equal_records x y e = subst (SameRecord same x) e (own_record x)
 
   -- the same record at p, and the others as they were
@@ -60,7 +59,7 @@ module _ {S : Type 0} (same : S → S → Bool) where
 
   unchanged_once : (s t u : State S) → Unchanged s t → Unchanged s u → SameState same t u
   unchanged_once s t u h k = record {
-    shelf = λ q. equal_records _ _ (ap (λ l. get_or l q Empty) (h.shelf ∙ sym k.shelf));
+    shelf = λ q. equal_records _ _ (ap (λ l. get_or l q None) (h.shelf ∙ sym k.shelf));
     symbols = h.symbols ∙ sym k.symbols;
     numbers = h.numbers ∙ sym k.numbers;
   }
@@ -81,9 +80,9 @@ module _ {S : Type 0} (same : S → S → Bool) where
       (f.formed, made_own h.kept.sets n (body m) h.followers h.followers h.even h.even f.sets)
       (g.formed, made_own k.kept.sets n (body m) k.followers h.followers k.even h.even g.sets) in
       let sets : h.kept.sets ≡ k.kept.sets = let e = one.0 in cc in
-      let here : SameRecord same (Taken h.kept) (Taken k.kept) = (h.tells.count ∙ sym k.tells.count, sets) in
+      let here : SameRecord same (Some h.kept) (Some k.kept) = (h.tells.count ∙ sym k.tells.count, sets) in
       record {
-        shelf = by_place s t u p (subst (λ x. SameRecord same x (record_at u.shelf p)) (sym h.here) (subst (SameRecord same (Taken h.kept)) (sym k.here) here)) h.others k.others;
+        shelf = by_place s t u p (subst (λ x. SameRecord same x (record_at u.shelf p)) (sym h.here) (subst (SameRecord same (Some h.kept)) (sym k.here) here)) h.others k.others;
         symbols = h.symbols ∙ sym k.symbols;
         numbers = h.numbers ∙ ap (placed s.numbers p) one.1 ∙ sym k.numbers;
       }
@@ -100,18 +99,18 @@ module _ {S : Type 0} (same : S → S → Bool) where
   withdrawn_once s t u p (Err f) (Ok y) e h k = absurd (ok_err y f (sym e))
   withdrawn_once s t u p (Err f) (Err g) e h k = unchanged_once s t u h k
 
-  tried_once : (here : Bool) (found : Record) (p : ℕ) (ss : List S) (ns : List ℕ) (word : List S) (k : Option (Model S)) (r q : Result Trial Fault)
+  tried_once : (here : Bool) (found : Option Summary) (p : ℕ) (ss : List S) (ns : List ℕ) (word : List S) (k : Option (Model S)) (r q : Result Trial Fault)
       → HoldsAt same found ss ns p k → TriesAt same here found p ss ns word r → TriesAt same here found p ss ns word q → r ≡ q
   tried_once false found p ss ns word k r q h f g = f ∙ sym g
-  tried_once true Empty p ss ns word k r q h f g = f ∙ sym g
-  tried_once true (Taken t) p ss ns word None r q h f g = absurd h
-  tried_once true (Taken t) p ss ns word (Some m) (Ok v) (Ok w) h f g = ap Ok ((one_answer same).trial m word v w (f m h.1.tables) (g m h.1.tables))
-  tried_once true (Taken t) p ss ns word (Some m) (Ok v) (Err y) h f g = absurd g
-  tried_once true (Taken t) p ss ns word (Some m) (Err x) q h f g = absurd f
+  tried_once true None p ss ns word k r q h f g = f ∙ sym g
+  tried_once true (Some t) p ss ns word None r q h f g = absurd h
+  tried_once true (Some t) p ss ns word (Some m) (Ok v) (Ok w) h f g = ap Ok ((one_answer same).trial m word v w (f m h.1.tables) (g m h.1.tables))
+  tried_once true (Some t) p ss ns word (Some m) (Ok v) (Err y) h f g = absurd g
+  tried_once true (Some t) p ss ns word (Some m) (Err x) q h f g = absurd f
 
   pub one_call : OneAnswer same
   one_call = record {
-    loads = λ s t u p m r q h k. let e = one_end (has s p) (is_taken (record_at s.shelf p)) p m r q h.ends k.ends in (e, loaded_once s t u p m r q e h.writes k.writes);
+    loads = λ s t u p m r q h k. let e = one_end (has s p) (is_some (record_at s.shelf p)) p m r q h.ends k.ends in (e, loaded_once s t u p m r q e h.writes k.writes);
     withdraws = λ s t u p r q h k. let e = h.ends ∙ sym k.ends in (e, withdrawn_once s t u p r q e h.writes k.writes);
     tries = λ s p word k r q h f g. tried_once (has s p) (record_at s.shelf p) p s.symbols s.numbers word k r q h f g;
   }

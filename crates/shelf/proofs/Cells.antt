@@ -9,6 +9,14 @@ use Rattle.models.specs.declared.tables.Sets.{Sets}
 use Rattle.models.specs.TablesOf.{Made}
 use Rattle.shelf.specs.Places.{front, placed}
 
+-- the items in the first cells of a place are a part of the list
+pub placed_is : {X : Type 0} (p : ℕ) (cells items : List X) → placed cells p items ≡ put_mid (p * 64) (length items) cells items
+placed_is p cells items = ap (λ l. take (p * 64) cells ++ (items ++ l)) (sym (drop-drop (length items) (p * 64) cells))
+
+pub put_first : {X : Type 0} (p from n : ℕ) (cells items ys : List X) → p * 64 ≡ from → n ≡ length items → ys ≡ items → put_mid from n cells ys ≡ placed cells p items
+put_first p from n cells items ys e f g =
+    ap (λ i. put_mid i n cells ys) (sym e) ∙ ap (λ i. put_mid (p * 64) i cells ys) f ∙ ap (put_mid (p * 64) (length items) cells) g ∙ sym (placed_is p cells items)
+
 -- the items first in a part, and the rest of the part as it was: that is the items in the list, and the rest of it as it was
 pub put_placed : {X : Type 0} (a k : ℕ) (cells items ys : List X) → a + k ≤ length cells → length items ≤ k → ys ≡ items ++ drop (length items) (take k (drop a cells)) → put_mid a k cells ys ≡ take a cells ++ (items ++ drop (a + length items) cells)
 put_placed a k cells items ys h n e =
@@ -35,9 +43,6 @@ made_placed a k n cells new s e d h le =
 
 -- what stands in the cells of places after a load at p
 module _ {X : Type 0} (cells items : List X) (p : ℕ) (room : p * 64 + 64 ≤ length cells) (few : length items ≤ 64) where
-  is_put : placed cells p items ≡ put_mid (p * 64) (length items) cells items
-  is_put = ap (λ l. take (p * 64) cells ++ (items ++ l)) (sym (drop-drop (length items) (p * 64) cells))
-
   pub length_placed : length (placed cells p items) ≡ length cells
   length_placed = simp (length-append, length-take, length-drop) (omega arith)
 
@@ -50,10 +55,10 @@ module _ {X : Type 0} (cells items : List X) (p : ℕ) (room : p * 64 + 64 ≤ l
   front_other q n ne le =
       ⊎_elim
       (λ below. let h : q * 64 + n ≤ p * 64 = omega arith in let k : p * 64 ≤ length cells = omega arith in
-      ap (λ l. take n (drop (q * 64) l)) is_put
+      ap (λ l. take n (drop (q * 64) l)) (placed_is p cells items)
       ∙ sym (drop-take (q * 64) n (put_mid (p * 64) (length items) cells items))
       ∙ ap (drop (q * 64)) (take-put_mid_below (p * 64) (length items) cells items (q * 64 + n) h k)
       ∙ drop-take (q * 64) n cells)
       (λ above. let h : p * 64 + length items ≤ q * 64 = omega arith in let k : p * 64 ≤ length cells = omega arith in
-      ap (λ l. take n (drop (q * 64) l)) is_put ∙ ap (take n) (drop-put_mid (p * 64) (length items) cells items (q * 64) h k refl))
+      ap (λ l. take n (drop (q * 64) l)) (placed_is p cells items) ∙ ap (take n) (drop-put_mid (p * 64) (length items) cells items (q * 64) h k refl))
       (cases_lt q p)

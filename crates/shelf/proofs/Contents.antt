@@ -13,8 +13,7 @@ use Rattle.models.specs.TablesOf.{TablesOf}
 use Rattle.models.specs.Told.{TrialTold}
 use Rattle.models.proofs.Automata.{may_goes, goes_may, ends_end, end_ends}
 use Rattle.tables.specs.Tables.{Table}
-use Rattle.shelf.specs.declared.records.Record.{Record}
-use Rattle.shelf.specs.declared.records.Record.TheVariants.{Empty, Taken}
+use Rattle.shelf.specs.declared.records.Summary.{Summary}
 use Rattle.shelf.specs.Places.{front, record_at, HoldsAt}
 use Rattle.shelf.specs.Calls.{TakesJust}
 use Rattle.shelf.specs.Theorems.{Agree, OneOf, OneContent}
@@ -75,13 +74,13 @@ module _ {S : Type 0} (same : S → S → Bool) {foreign : S → Bool} (laws : K
   }
 
 module _ {S : Type 0} (same : S → S → Bool) {foreign : S → Bool} (laws : KindLaws same foreign) where
-  held_once : (found : Record) (ss : List S) (ns : List ℕ) (p : ℕ) (k l : Option (Model S)) → HoldsAt same found ss ns p k → HoldsAt same found ss ns p l → OneOf same k l
-  held_once Empty ss ns p None None h g = tt
-  held_once Empty ss ns p None (Some n) h g = absurd g
-  held_once Empty ss ns p (Some m) l h g = absurd h
-  held_once (Taken t) ss ns p None l h g = absurd h
-  held_once (Taken t) ss ns p (Some m) None h g = absurd g
-  held_once (Taken t) ss ns p (Some m) (Some n) h g = agree same laws t.sets (front ns p t.count) (front ss p t.count) m n h.1.tables g.1.tables
+  held_once : (found : Option Summary) (ss : List S) (ns : List ℕ) (p : ℕ) (k l : Option (Model S)) → HoldsAt same found ss ns p k → HoldsAt same found ss ns p l → OneOf same k l
+  held_once None ss ns p None None h g = tt
+  held_once None ss ns p None (Some n) h g = absurd g
+  held_once None ss ns p (Some m) l h g = absurd h
+  held_once (Some t) ss ns p None l h g = absurd h
+  held_once (Some t) ss ns p (Some m) None h g = absurd g
+  held_once (Some t) ss ns p (Some m) (Some n) h g = agree same laws t.sets (front ns p t.count) (front ss p t.count) m n h.1.tables g.1.tables
 
   pub one_content : OneContent same
   one_content s p k l h g = held_once (record_at s.shelf p) s.symbols s.numbers p k l h g

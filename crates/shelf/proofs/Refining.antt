@@ -1,7 +1,8 @@
 -- Each call is the plain shelf's, place by place. Assumes nothing.
-use Rattle.std.proofs.Common.{◌≡◌, ℕ, ◌+◌, ◌*◌, ◌<◌, ◌≤◌, Bool, true, false, cond, eqb, List, [], ◌∷◌, length, get_or, take, drop, replicate, is_some, Some, None, Ok, Err, Option, Result, sym, refl, ap, ◌∙◌, subst, ⊎_elim, arith, rules}
+use Rattle.std.proofs.Common.{◌≡◌, ℕ, ◌+◌, ◌*◌, ◌<◌, ◌≤◌, Bool, true, false, cond, eqb, List, [], ◌∷◌, ◌++◌, length, get_or, take, drop, replicate, is_some, Some, None, Ok, Err, Option, Result, sym, refl, ap, ◌∙◌, subst, ⊎_elim, arith, rules}
 use borrow.Rule.Slice.PartMut.{put_mid}
-use Rattle.std.proofs.lemmas.List.{get_or_past, get_or_read_under, get_or-replicate, length-replicate}
+use Rattle.std.proofs.lemmas.List.{get_or_past, get_or-replicate, length-replicate}
+use Rattle.std.proofs.lemmas.Option.{cond_some}
 use Rattle.std.proofs.lemmas.Bool.{eq-eqb, ne_eqb, cases_eq, cases_lt, both_ways, false≢true}
 use Rattle.faults.specs.declared.Fault.{Fault}
 use Rattle.faults.specs.declared.Fault.TheVariants as fault
@@ -13,12 +14,9 @@ use Rattle.models.specs.TablesOf.{SetsOf}
 use Rattle.models.specs.Told.{Flawed, Studied}
 use Rattle.models.specs.Machine.{no_sets}
 use Rattle.tables.specs.Words.{stays, steps, Takes}
-use Rattle.shelf.specs.declared.records.Record.{Record}
-use Rattle.shelf.specs.declared.records.Record.TheVariants.{Empty, Taken}
 use Rattle.shelf.specs.declared.records.Summary.{Summary}
-use Rattle.shelf.specs.declared.shelves.Shelf.{Shelf}
-use Rattle.shelf.specs.Places.{State, room, front, placed, record_at, is_taken, has, Kept, HoldsAt, Holds, Cells, cells, cells_at, cells_of, table_from, table_of}
-use Rattle.shelf.specs.Calls.{Done, Judges, LoadEnds, TrialEnds, TakesJust, states_of, withdraw_ends, after_load, after_withdraw, Others, Unchanged, WithdrawWrites, Withdraws, Put, LoadWrites, Loads, TriesAt, Tries, Refines}
+use Rattle.shelf.specs.Places.{State, room, front, placed, record_at, has, Kept, HoldsAt, Holds, Cells, cells, cells_at, cells_of, table_from, table_of}
+use Rattle.shelf.specs.Calls.{Done, Judges, LoadEnds, TrialEnds, TakesJust, states_of, taken_at, withdraw_ends, after_load, after_withdraw, Others, Unchanged, WithdrawWrites, Withdraws, Put, LoadWrites, Loads, TriesAt, Tries, Refines}
 use Rattle.shelf.proofs.Cells.{length_placed, front_placed, front_other, made_placed}
 use Rattle.shelf.proofs.Reading.{takes_word, word_takes}
 
@@ -31,46 +29,46 @@ room_below a b p e = search rules
 pub ok_err : {A : Type 0} (u : A) (f : Fault) → Ok u ≡ Err f → ⊥
 ok_err u f e = let z : ◌≡◌ {A = ℕ} 0 1 = cc in omega arith
 
+-- where the first cell of a place is found, the place exists
+pub first_found : (here : Bool) (p from : ℕ) (o : Option ℕ) → o ≡ cond here (Some (p * 64)) None → o ≡ Some from → (here ≡ true) × (p * 64 ≡ from)
+first_found here p from o e f = cond_some here (p * 64) from (sym e ∙ f)
+
 -- where the place stands, it exists and is taken
 pub stood : (here full : Bool) (p : ℕ) (u : Unit {0}) → Ok u ≡ withdraw_ends here full p → (here ≡ true) × (full ≡ true)
 stood false full p u e = absurd (ok_err u (fault.NoPlace p) e)
 stood true false p u e = absurd (ok_err u (fault.Vacant p) e)
 stood true true p u e = (refl, refl)
 
--- the record that is read at p
-pub record_read : (shelf : Shelf) (p : ℕ) (x : Record) → x ≡ get_or shelf.records p x → p < 16 → 16 ≡ length shelf.records → record_at shelf p ≡ get_or shelf.records p x
-record_read shelf p x e lt long = sym (get_or_read_under shelf.records p 16 x Empty e lt long) ∙ e
-
 module _ {S : Type 0} (same : S → S → Bool) where
   -- a new shelf holds nothing
-  all_empty : (n p : ℕ) → get_or (replicate n Empty) p Empty ≡ Empty
-  all_empty n p = ⊎_elim (λ h. get_or-replicate n p Empty Empty h) (λ h. get_or_past (replicate n Empty) p Empty (simp length-replicate h)) (cases_lt p n)
+  all_empty : (n p : ℕ) → ◌≡◌ {A = Option Summary} (get_or (replicate n None) p None) None
+  all_empty n p = ⊎_elim (λ h. get_or-replicate n p None None h) (λ h. get_or_past (replicate n None) p None (simp length-replicate h)) (cases_lt p n)
 
-  pub new_holds : (s : State S) → s.shelf.records ≡ replicate 16 Empty → (p : ℕ) → Holds same s p None
-  new_holds s e p = subst (λ x. HoldsAt same x s.symbols s.numbers p None) (sym (ap (λ l. get_or l p Empty) e ∙ all_empty 16 p)) tt
+  pub new_holds : (s : State S) → s.shelf.records ≡ replicate 16 None → (p : ℕ) → Holds same s p None
+  new_holds s e p = subst (λ x. HoldsAt same x s.symbols s.numbers p None) (sym (ap (λ l. get_or l p None) e ∙ all_empty 16 p)) tt
 
-  pub full_is : (found : Record) (ss : List S) (ns : List ℕ) (q : ℕ) (k : Option (Model S)) → HoldsAt same found ss ns q k → is_taken found ≡ is_some k
-  full_is Empty ss ns q None h = refl
-  full_is Empty ss ns q (Some m) h = absurd h
-  full_is (Taken t) ss ns q None h = absurd h
-  full_is (Taken t) ss ns q (Some m) h = refl
+  pub full_is : (found : Option Summary) (ss : List S) (ns : List ℕ) (q : ℕ) (k : Option (Model S)) → HoldsAt same found ss ns q k → is_some found ≡ is_some k
+  full_is None ss ns q None h = refl
+  full_is None ss ns q (Some m) h = absurd h
+  full_is (Some t) ss ns q None h = absurd h
+  full_is (Some t) ss ns q (Some m) h = refl
 
   kept_as : {t : Summary} {xs ys : List S} {rs ss : List ℕ} {m : Model S} → xs ≡ ys → rs ≡ ss → Kept same t xs rs m → Kept same t ys ss m
   kept_as {t} {xs} {ys} {rs} {ss} {m} e f k = subst (λ l. Kept same t l ss m) e (subst (λ l. Kept same t xs l m) f k)
 
   -- the same record and the same cells hold the same
-  moved : (found : Record) (ss ss' : List S) (ns ns' : List ℕ) (q : ℕ) (k : Option (Model S)) → length ss' ≡ length ss → length ns' ≡ length ns → ((n : ℕ) → n ≤ 64 → front ss' q n ≡ front ss q n) → ((n : ℕ) → n ≤ 64 → front ns' q n ≡ front ns q n) → HoldsAt same found ss ns q k → HoldsAt same found ss' ns' q k
-  moved Empty ss ss' ns ns' q None a b f g h = tt
-  moved Empty ss ss' ns ns' q (Some m) a b f g h = h
-  moved (Taken t) ss ss' ns ns' q None a b f g h = h
-  moved (Taken t) ss ss' ns ns' q (Some m) a b f g h =
+  moved : (found : Option Summary) (ss ss' : List S) (ns ns' : List ℕ) (q : ℕ) (k : Option (Model S)) → length ss' ≡ length ss → length ns' ≡ length ns → ((n : ℕ) → n ≤ 64 → front ss' q n ≡ front ss q n) → ((n : ℕ) → n ≤ 64 → front ns' q n ≡ front ns q n) → HoldsAt same found ss ns q k → HoldsAt same found ss' ns' q k
+  moved None ss ss' ns ns' q None a b f g h = tt
+  moved None ss ss' ns ns' q (Some m) a b f g h = h
+  moved (Some t) ss ss' ns ns' q None a b f g h = h
+  moved (Some t) ss ss' ns ns' q (Some m) a b f g h =
       (ap (λ x. room x (length ns') q) a ∙ ap (λ x. room (length ss) x q) b ∙ h.0, kept_as (sym (f t.count t.fits)) (sym (g t.count t.fits)) h.1)
 
   pub carried : (s t : State S) (q : ℕ) (k : Option (Model S)) → record_at t.shelf q ≡ record_at s.shelf q → length t.symbols ≡ length s.symbols → length t.numbers ≡ length s.numbers → ((n : ℕ) → n ≤ 64 → front t.symbols q n ≡ front s.symbols q n) → ((n : ℕ) → n ≤ 64 → front t.numbers q n ≡ front s.numbers q n) → Holds same s q k → Holds same t q k
   carried s t q k e a b f g h = subst (λ found. HoldsAt same found t.symbols t.numbers q k) (sym e) (moved _ _ _ _ _ q k a b f g h)
 
   unchanged : (s t : State S) → Unchanged s t → (q : ℕ) (k : Option (Model S)) → Holds same s q k → Holds same t q k
-  unchanged s t w q k = carried s t q k (ap (λ l. get_or l q Empty) w.shelf) (ap length w.symbols) (ap length w.numbers) (λ n le. ap (λ l. front l q n) w.symbols) (λ n le. ap (λ l. front l q n) w.numbers)
+  unchanged s t w q k = carried s t q k (ap (λ l. get_or l q None) w.shelf) (ap length w.symbols) (ap length w.numbers) (λ n le. ap (λ l. front l q n) w.symbols) (λ n le. ap (λ l. front l q n) w.numbers)
 
   by_place : (s t : State S) (p : ℕ) (after : Option (Model S) → Option (Model S)) → ((k : Option (Model S)) → Holds same s p k → Holds same t p (after k)) → ((q : ℕ) (k : Option (Model S)) → (q ≡ p → ⊥) → Holds same s q k → Holds same t q k) → (q : ℕ) (k : Option (Model S)) → Holds same s q k → Holds same t q (cond (eqb q p) (after k) k)
   by_place s t p after here other q k h =
@@ -85,7 +83,7 @@ module _ {S : Type 0} (same : S → S → Bool) where
   load_done true true p m u e = absurd (ok_err u (fault.Taken p) e)
   load_done true false p m u j = (refl, j.0.few)
 
-  load_here : (s t : State S) (p : ℕ) (m : Model S) (r : Done) → LoadEnds same (has s p) (is_taken (record_at s.shelf p)) p m r → LoadWrites same s p m r t → (k : Option (Model S)) → Holds same s p k → Holds same t p (after_load r m k)
+  load_here : (s t : State S) (p : ℕ) (m : Model S) (r : Done) → LoadEnds same (has s p) (is_some (record_at s.shelf p)) p m r → LoadWrites same s p m r t → (k : Option (Model S)) → Holds same s p k → Holds same t p (after_load r m k)
   load_here s t p m (Ok u) e w k h =
       let f = load_done _ _ p m u e in
       let c = room_cells _ _ p f.0 in
@@ -98,14 +96,14 @@ module _ {S : Type 0} (same : S → S → Bool) where
       (ap (λ x. room x (length t.numbers) p) a ∙ ap (λ x. room (length s.symbols) x p) b ∙ f.0, kept_as (sym x) (sym y) w.tells)
   load_here s t p m (Err x) e w k h = unchanged s t w p k h
 
-  load_lengths : (s t : State S) (p : ℕ) (m : Model S) (r : Done) → LoadEnds same (has s p) (is_taken (record_at s.shelf p)) p m r → LoadWrites same s p m r t → (length t.symbols ≡ length s.symbols) × (length t.numbers ≡ length s.numbers)
+  load_lengths : (s t : State S) (p : ℕ) (m : Model S) (r : Done) → LoadEnds same (has s p) (is_some (record_at s.shelf p)) p m r → LoadWrites same s p m r t → (length t.symbols ≡ length s.symbols) × (length t.numbers ≡ length s.numbers)
   load_lengths s t p m (Ok u) e w =
       let f = load_done _ _ p m u e in
       let c = room_cells _ _ p f.0 in
       (ap length w.symbols ∙ length_placed s.symbols m.symbols p c.0 f.1, ap length w.numbers ∙ length_placed s.numbers w.followers p c.1 (omega (arith, f.1, w.even)))
   load_lengths s t p m (Err x) e w = (ap length w.symbols, ap length w.numbers)
 
-  load_other : (s t : State S) (p : ℕ) (m : Model S) (r : Done) → LoadEnds same (has s p) (is_taken (record_at s.shelf p)) p m r → LoadWrites same s p m r t → (q : ℕ) (k : Option (Model S)) → (q ≡ p → ⊥) → Holds same s q k → Holds same t q k
+  load_other : (s t : State S) (p : ℕ) (m : Model S) (r : Done) → LoadEnds same (has s p) (is_some (record_at s.shelf p)) p m r → LoadWrites same s p m r t → (q : ℕ) (k : Option (Model S)) → (q ≡ p → ⊥) → Holds same s q k → Holds same t q k
   load_other s t p m (Ok u) e w q k ne =
       let f = load_done _ _ p m u e in
       let c = room_cells _ _ p f.0 in
@@ -144,10 +142,10 @@ module _ {S : Type 0} (same : S → S → Bool) where
   }
 
   -- a model that was studied in the place's stretch of the numbers, and put into the place
-  pub studied_put : (s t : State S) (p k : ℕ) (m : Model S) (kept : Summary) (sets : Sets) (new : List ℕ) → has s p ≡ true → k ≡ 64
-      → Studied same m sets (take k (drop (p * 64) s.numbers)) new → kept.count ≡ length m.symbols → kept.sets ≡ sets
-      → record_at t.shelf p ≡ Taken kept → Others s p t → t.symbols ≡ placed s.symbols p m.symbols → t.numbers ≡ put_mid (p * 64) k s.numbers new → Put same s p m t
-  studied_put s t p k m kept sets new here long d count own found others symbols numbers =
+  pub studied_put : (s t : State S) (p from k : ℕ) (m : Model S) (kept : Summary) (sets : Sets) (new : List ℕ) → has s p ≡ true → p * 64 ≡ from → k ≡ 64
+      → Studied same m sets (take k (drop from s.numbers)) new → kept.count ≡ length m.symbols → kept.sets ≡ sets
+      → record_at t.shelf p ≡ Some kept → Others s p t → t.symbols ≡ placed s.symbols p m.symbols → t.numbers ≡ put_mid from k s.numbers new → Put same s p m t
+  studied_put s t p from k m kept sets new here at long d count own found others symbols numbers =
       let room = (room_cells _ _ p here).1 in
       let few = d.formed.few in
       record {
@@ -161,25 +159,27 @@ module _ {S : Type 0} (same : S → S → Bool) where
         here = found;
         others = others;
         symbols = symbols;
-        numbers = numbers ∙ made_placed (p * 64) k (length m.symbols) s.numbers new sets (body m) d.made (omega arith) (omega arith);
+        numbers = numbers
+            ∙ made_placed from k (length m.symbols) s.numbers new sets (body m) d.made (omega arith) (omega arith)
+            ∙ ap (λ i. take i s.numbers ++ (d.made.rows ++ drop (i + length d.made.rows) s.numbers)) (sym at);
       }
 
   pub load_ends : (here full : Bool) (p : ℕ) (m : Model S) (r : Done) → here ≡ true → full ≡ false → Judges same m r → LoadEnds same here full p m r
   load_ends here full p m r e f j = subst (λ b. LoadEnds same b full p m r) (sym e) (subst (λ b. LoadEnds same true b p m r) (sym f) j)
 
   -- a load that the model's flaw refuses
-  pub load_refused : (s t : State S) (p : ℕ) (m : Model S) (f : Fault) → has s p ≡ true → is_taken (record_at s.shelf p) ≡ false → Flawed same m f → Unchanged s t → Loads same s p m (Err f) t
-  load_refused s t p m f here free flaw u = record { ends = load_ends (has s p) (is_taken (record_at s.shelf p)) p m (Err f) here free flaw; writes = u }
+  pub load_refused : (s t : State S) (p : ℕ) (m : Model S) (f : Fault) → has s p ≡ true → is_some (record_at s.shelf p) ≡ false → Flawed same m f → Unchanged s t → Loads same s p m (Err f) t
+  load_refused s t p m f here free flaw u = record { ends = load_ends (has s p) (is_some (record_at s.shelf p)) p m (Err f) here free flaw; writes = u }
 
   -- a trial at a place that stands
-  try_says : (here : Bool) (found : Record) (p : ℕ) (ss : List S) (ns : List ℕ) (word : List S) (r : Result Trial Fault) (k : Option (Model S))
+  try_says : (here : Bool) (found : Option Summary) (p : ℕ) (ss : List S) (ns : List ℕ) (word : List S) (r : Result Trial Fault) (k : Option (Model S))
       → TriesAt same here found p ss ns word r → HoldsAt same found ss ns p k → TrialEnds same here p k word r
   try_says false found p ss ns word r k d h = d
-  try_says true Empty p ss ns word r None d h = d
-  try_says true Empty p ss ns word r (Some m) d h = absurd h
-  try_says true (Taken t) p ss ns word r None d h = absurd h
-  try_says true (Taken t) p ss ns word (Ok v) (Some m) d h = d m h.1.tables
-  try_says true (Taken t) p ss ns word (Err f) (Some m) d h = absurd d
+  try_says true None p ss ns word r None d h = d
+  try_says true None p ss ns word r (Some m) d h = absurd h
+  try_says true (Some t) p ss ns word r None d h = absurd h
+  try_says true (Some t) p ss ns word (Ok v) (Some m) d h = d m h.1.tables
+  try_says true (Some t) p ss ns word (Err f) (Some m) d h = absurd d
 
   pub try_refines : (s : State S) (p : ℕ) (word : List S) (r : Result Trial Fault) → Tries same s p word r → Refines same s p (λ k. k) (λ k. TrialEnds same (has s p) p k word r) s
   try_refines s p word r d = record {
@@ -190,16 +190,16 @@ module _ {S : Type 0} (same : S → S → Bool) where
   }
 
   -- the cells of a place that holds k have a symbol for each position
-  states_at : (here : Bool) (found : Record) (ss : List S) (ns : List ℕ) (p : ℕ) (k : Option (Model S)) → room (length ss) (length ns) p ≡ here → HoldsAt same found ss ns p k
+  states_at : (here : Bool) (found : Option Summary) (ss : List S) (ns : List ℕ) (p : ℕ) (k : Option (Model S)) → room (length ss) (length ns) p ≡ here → HoldsAt same found ss ns p k
       → (table_from same (cells_at here found ss ns p)).states ≡ states_of k
-  states_at false Empty ss ns p None e h = refl
-  states_at false Empty ss ns p (Some m) e h = absurd h
-  states_at false (Taken t) ss ns p None e h = absurd h
-  states_at false (Taken t) ss ns p (Some m) e h = absurd (both_ways _ e h.0)
-  states_at true Empty ss ns p None e h = refl
-  states_at true Empty ss ns p (Some m) e h = absurd h
-  states_at true (Taken t) ss ns p None e h = absurd h
-  states_at true (Taken t) ss ns p (Some m) e h =
+  states_at false None ss ns p None e h = refl
+  states_at false None ss ns p (Some m) e h = absurd h
+  states_at false (Some t) ss ns p None e h = absurd h
+  states_at false (Some t) ss ns p (Some m) e h = absurd (both_ways _ e h.0)
+  states_at true None ss ns p None e h = refl
+  states_at true None ss ns p (Some m) e h = absurd h
+  states_at true (Some t) ss ns p None e h = absurd h
+  states_at true (Some t) ss ns p (Some m) e h =
       let l : length (front ss p t.count) ≡ length m.symbols = ap length h.1.tables.symbols in omega (arith, h.1.tables.formed.few)
 
   pub reader_states : (s : State S) (p : ℕ) (c : Cells S) → c ≡ cells_of s p → (k : Option (Model S)) → Holds same s p k → (table_from same c).states ≡ states_of k
@@ -216,24 +216,28 @@ module _ {S : Type 0} (same : S → S → Bool) where
       subst (λ d. ((table_from same d).states ≡ 1) × TakesJust same None (table_from same d)) c (refl, (λ word. (none_takes word, λ x. absurd x)))
 
   module _ {foreign : S → Bool} (laws : KindLaws same foreign) where
-    table_takes : (here : Bool) (found : Record) (ss : List S) (ns : List ℕ) (p : ℕ) (k : Option (Model S)) → room (length ss) (length ns) p ≡ here → HoldsAt same found ss ns p k
+    table_takes : (here : Bool) (found : Option Summary) (ss : List S) (ns : List ℕ) (p : ℕ) (k : Option (Model S)) → room (length ss) (length ns) p ≡ here → HoldsAt same found ss ns p k
         → TakesJust same k (table_from same (cells_at here found ss ns p))
-    table_takes false Empty ss ns p None e h word = (none_takes word, λ x. absurd x)
-    table_takes false Empty ss ns p (Some m) e h word = absurd h
-    table_takes false (Taken t) ss ns p None e h word = absurd h
-    table_takes false (Taken t) ss ns p (Some m) e h word = absurd (both_ways _ e h.0)
-    table_takes true Empty ss ns p None e h word = (none_takes word, λ x. absurd x)
-    table_takes true Empty ss ns p (Some m) e h word = absurd h
-    table_takes true (Taken t) ss ns p None e h word = absurd h
-    table_takes true (Taken t) ss ns p (Some m) e h word =
+    table_takes false None ss ns p None e h word = (none_takes word, λ x. absurd x)
+    table_takes false None ss ns p (Some m) e h word = absurd h
+    table_takes false (Some t) ss ns p None e h word = absurd h
+    table_takes false (Some t) ss ns p (Some m) e h word = absurd (both_ways _ e h.0)
+    table_takes true None ss ns p None e h word = (none_takes word, λ x. absurd x)
+    table_takes true None ss ns p (Some m) e h word = absurd h
+    table_takes true (Some t) ss ns p None e h word = absurd h
+    table_takes true (Some t) ss ns p (Some m) e h word =
         let d = h.1.tables in
         (takes_word same laws t.sets (front ns p t.count) (front ss p t.count) m d word, word_takes same laws t.sets (front ns p t.count) (front ss p t.count) m d word)
 
     pub reader_takes : (s : State S) (p : ℕ) (c : Cells S) → c ≡ cells_of s p → (k : Option (Model S)) → Holds same s p k → TakesJust same k (table_from same c)
     reader_takes s p c e k h = subst (λ d. TakesJust same k (table_from same d)) (sym e) (table_takes (has s p) (record_at s.shelf p) s.symbols s.numbers p k refl h)
 
-pub reader_taken : {S : Type 0} (here : Bool) (found : Record) (t : Summary) (k : ℕ) (ss : List S) (ns : List ℕ) (p : ℕ) → here ≡ true → found ≡ Taken t → k ≡ t.count
-    → cells (take k (drop (p * 64) ss)) (take k (drop (p * 64) ns)) t.sets ≡ cells_at here found ss ns p
-reader_taken here found t k ss ns p e f g =
-    ap (λ j. cells (take j (drop (p * 64) ss)) (take j (drop (p * 64) ns)) t.sets) g
-    ∙ sym (ap (λ b. cells_at b found ss ns p) e ∙ ap (λ x. cells_at true x ss ns p) f)
+-- the cells of a taken place, by where they begin and what is kept of it
+pub reader_taken : {S : Type 0} (here : Bool) (found : Option Summary) (from : ℕ) (t : Summary) (k : ℕ) (ss : List S) (ns : List ℕ) (p : ℕ) → Ok (from, t) ≡ taken_at here found p → k ≡ t.count
+    → cells (take k (drop from ss)) (take k (drop from ns)) t.sets ≡ cells_at here found ss ns p
+reader_taken false found from t k ss ns p e g = absurd (ok_err _ (fault.NoPlace p) e)
+reader_taken true None from t k ss ns p e g = absurd (ok_err _ (fault.Vacant p) e)
+reader_taken true (Some u) from t k ss ns p e g =
+    let q : ◌≡◌ {A = ℕ × Summary} (from, t) (p * 64, u) = cc in
+    ap (λ j. cells (take j (drop from ss)) (take j (drop from ns)) t.sets) g
+    ∙ ap (λ (x : ℕ × Summary). cells (take x.1.count (drop x.0 ss)) (take x.1.count (drop x.0 ns)) x.1.sets) q

@@ -1,6 +1,6 @@
 -- What each call answers and does, whatever the lists contain; and that this is what a plain shelf of optional models answers and does.
 -- Assumes nothing.
-use Rattle.std.specs.Prelude.{◌≡◌, ℕ, ◌+◌, Bool, true, false, cond, ◌↔◌, List, length, Some, None, Ok, Err, Option, Result, ◌==◌, ◌≢◌}
+use Rattle.std.specs.Prelude.{◌≡◌, ℕ, ◌+◌, ◌*◌, Bool, true, false, cond, ◌↔◌, List, length, Some, None, Ok, Err, Option, Result, ◌==◌, ◌≢◌, is_some}
 use Rattle.faults.specs.declared.Fault.{Fault}
 use Rattle.faults.specs.declared.Fault.TheVariants as fault
 use Rattle.language.specs.Meaning.{Model, Formed, Unambiguous, Word}
@@ -9,10 +9,8 @@ use Rattle.models.specs.TablesOf.{TablesOf}
 use Rattle.models.specs.Told.{Flawed, TrialTold}
 use Rattle.tables.specs.Tables.{Table}
 use Rattle.tables.specs.Words.{Takes}
-use Rattle.shelf.specs.declared.records.Record.{Record}
-use Rattle.shelf.specs.declared.records.Record.TheVariants.{Empty, Taken}
 use Rattle.shelf.specs.declared.records.Summary.{Summary}
-use Rattle.shelf.specs.Places.{State, front, placed, record_at, is_taken, has, Kept, Holds}
+use Rattle.shelf.specs.Places.{State, front, placed, record_at, has, Kept, Holds}
 
 abbrev pub Done : Type 0
 Done = Result (Unit {0}) Fault
@@ -44,6 +42,12 @@ module _ {S : Type 0} (same : S → S → Bool) where
   abbrev pub TakesJust : Option (Model S) → Table S → Type 0
   TakesJust k t = (word : List S) → Takes t word ↔ WordOf k word
 
+-- where the cells of a taken place begin and what is kept of it, and else why calls there are refused
+abbrev pub taken_at : Bool → Option Summary → ℕ → Result (ℕ × Summary) Fault
+taken_at false found p = Err (fault.NoPlace p)
+taken_at true None p = Err (fault.Vacant p)
+taken_at true (Some t) p = Ok (p * 64, t)
+
 abbrev pub withdraw_ends : Bool → Bool → ℕ → Done
 withdraw_ends here full p = cond here (cond full (Ok tt) (Err (fault.Vacant p))) (Err (fault.NoPlace p))
 
@@ -73,7 +77,7 @@ module _ {S : Type 0} where
 
   -- place p is empty, and nothing else has changed
   pub record Freed (s : State S) (p : ℕ) (t : State S) : Type 0 where
-    pub here : record_at t.shelf p ≡ Empty
+    pub here : record_at t.shelf p ≡ None
     pub others : Others s p t
     pub symbols : t.symbols ≡ s.symbols
     pub numbers : t.numbers ≡ s.numbers
@@ -84,7 +88,7 @@ module _ {S : Type 0} where
 
   -- a withdrawal at place p, from s to t, that returns r
   pub record Withdraws (s : State S) (p : ℕ) (r : Done) (t : State S) : Type 0 where
-    pub ends : r ≡ withdraw_ends (has s p) (is_taken (record_at s.shelf p)) p
+    pub ends : r ≡ withdraw_ends (has s p) (is_some (record_at s.shelf p)) p
     pub writes : WithdrawWrites s p r t
 
 module _ {S : Type 0} (same : S → S → Bool) where
@@ -95,7 +99,7 @@ module _ {S : Type 0} (same : S → S → Bool) where
     pub followers : List ℕ
     pub even : length followers ≡ length m.symbols
     pub tells : Kept same kept m.symbols followers m
-    pub here : record_at t.shelf p ≡ Taken kept
+    pub here : record_at t.shelf p ≡ Some kept
     pub others : Others s p t
     pub symbols : t.symbols ≡ placed s.symbols p m.symbols
     pub numbers : t.numbers ≡ placed s.numbers p followers
@@ -106,16 +110,16 @@ module _ {S : Type 0} (same : S → S → Bool) where
 
   -- a load at place p, from s to t, that returns r
   pub record Loads (s : State S) (p : ℕ) (m : Model S) (r : Done) (t : State S) : Type 0 where
-    pub ends : LoadEnds same (has s p) (is_taken (record_at s.shelf p)) p m r
+    pub ends : LoadEnds same (has s p) (is_some (record_at s.shelf p)) p m r
     pub writes : LoadWrites s p m r t
 
   -- a trial where this record stands: at a taken place it is done, and true of each model whose tables stand there
-  abbrev pub TriesAt : Bool → Record → ℕ → List S → List ℕ → List S → Result Trial Fault → Type 0
+  abbrev pub TriesAt : Bool → Option Summary → ℕ → List S → List ℕ → List S → Result Trial Fault → Type 0
   TriesAt false found p ss ns word r = r ≡ Err (fault.NoPlace p)
-  TriesAt true Empty p ss ns word r = r ≡ Err (fault.Vacant p)
-  TriesAt true (Taken t) p ss ns word (Ok v) =
+  TriesAt true None p ss ns word r = r ≡ Err (fault.Vacant p)
+  TriesAt true (Some t) p ss ns word (Ok v) =
       (m : Model S) → TablesOf same t.sets (front ns p t.count) (front ss p t.count) m → TrialTold same m word v
-  TriesAt true (Taken t) p ss ns word (Err f) = ⊥
+  TriesAt true (Some t) p ss ns word (Err f) = ⊥
 
   -- a trial of a word at place p that returns r
   abbrev pub Tries : State S → ℕ → List S → Result Trial Fault → Type 0

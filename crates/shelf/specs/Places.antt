@@ -6,8 +6,6 @@ use Rattle.models.specs.Machine.{no_sets}
 use Rattle.models.specs.TablesOf.{TablesOf}
 use Rattle.tables.specs.Tables.{Table}
 use Rattle.tables.specs.Places.{place_table}
-use Rattle.shelf.specs.declared.records.Record.{Record}
-use Rattle.shelf.specs.declared.records.Record.TheVariants.{Empty, Taken}
 use Rattle.shelf.specs.declared.records.Summary.{Summary}
 use Rattle.shelf.specs.declared.shelves.Shelf.{Shelf}
 
@@ -33,12 +31,8 @@ abbrev pub state : {S : Type 0} → Shelf → List S → List ℕ → State S
 state shelf ss ns = record { shelf = shelf; symbols = ss; numbers = ns }
 
 -- the record of place p: empty past the sixteen
-abbrev pub record_at : Shelf → ℕ → Record
-record_at shelf p = slice_index_or shelf.records p Empty
-
-abbrev pub is_taken : Record → Bool
-is_taken Empty = false
-is_taken (Taken t) = true
+abbrev pub record_at : Shelf → ℕ → Option Summary
+record_at shelf p = slice_index_or shelf.records p None
 
 -- there is such a place
 abbrev pub has : {S : Type 0} → State S → ℕ → Bool
@@ -55,10 +49,10 @@ module _ {S : Type 0} where
   cells xs rows sets = record { symbols = xs; followers = rows; sets = sets }
 
   -- no position where the place is missing or empty
-  abbrev pub cells_at : Bool → Record → List S → List ℕ → ℕ → Cells S
+  abbrev pub cells_at : Bool → Option Summary → List S → List ℕ → ℕ → Cells S
   cells_at false found ss ns p = cells [] [] no_sets
-  cells_at true Empty ss ns p = cells [] [] no_sets
-  cells_at true (Taken t) ss ns p = cells (front ss p t.count) (front ns p t.count) t.sets
+  cells_at true None ss ns p = cells [] [] no_sets
+  cells_at true (Some t) ss ns p = cells (front ss p t.count) (front ns p t.count) t.sets
 
   abbrev pub cells_of : State S → ℕ → Cells S
   cells_of s p = cells_at (has s p) (record_at s.shelf p) s.symbols s.numbers p
@@ -70,11 +64,11 @@ module _ {S : Type 0} (same : S → S → Bool) where
     pub tables : TablesOf same t.sets ns ss m
 
   -- a place with this record in these lists holds k
-  abbrev pub HoldsAt : Record → List S → List ℕ → ℕ → Option (Model S) → Type 0
-  HoldsAt Empty ss ns p None = Unit {0}
-  HoldsAt Empty ss ns p (Some m) = ⊥
-  HoldsAt (Taken t) ss ns p None = ⊥
-  HoldsAt (Taken t) ss ns p (Some m) = (room (length ss) (length ns) p ≡ true) × Kept t (front ss p t.count) (front ns p t.count) m
+  abbrev pub HoldsAt : Option Summary → List S → List ℕ → ℕ → Option (Model S) → Type 0
+  HoldsAt None ss ns p None = Unit {0}
+  HoldsAt None ss ns p (Some m) = ⊥
+  HoldsAt (Some t) ss ns p None = ⊥
+  HoldsAt (Some t) ss ns p (Some m) = (room (length ss) (length ns) p ≡ true) × Kept t (front ss p t.count) (front ns p t.count) m
 
   -- place p holds k: nothing, or a model whose symbols and followers stand in the place's cells and whose record is the model's
   abbrev pub Holds : State S → ℕ → Option (Model S) → Type 0

@@ -6,15 +6,14 @@ use Rattle.language.specs.Meaning.{Model, body, Word}
 use Rattle.models.specs.declared.trials.Trial.{Trial}
 use Rattle.models.specs.Told.{TrialTold}
 use Rattle.tables.specs.Tables.{Table, Sound, Alike}
-use Rattle.shelf.specs.declared.records.Record.{Record}
-use Rattle.shelf.specs.declared.records.Record.TheVariants.{Empty, Taken}
+use Rattle.shelf.specs.declared.records.Summary.{Summary}
 use Rattle.shelf.specs.Places.{State, record_at, has, Holds, table_of}
 use Rattle.shelf.specs.Calls.{Done, TakesJust, states_of, Loads, Withdraws, Tries}
 
 module _ {S : Type 0} (same : S → S → Bool) where
   -- a shelf whose sixteen records are empty holds nothing at any place, whatever the lists
   abbrev pub NewHolds : Type 0
-  NewHolds = (s : State S) → s.shelf.records ≡ replicate 16 Empty → (p : ℕ) → Holds same s p None
+  NewHolds = (s : State S) → s.shelf.records ≡ replicate 16 None → (p : ℕ) → Holds same s p None
 
   -- the reader of place p, whatever the lists contain: its table is lawful; it takes just the words of what the place holds, with a
   -- state for each position and a start; and where there is no such place it has one state and takes nothing
@@ -48,11 +47,11 @@ module _ {S : Type 0} (same : S → S → Bool) where
   OneContent = (s : State S) (p : ℕ) (k l : Option (Model S)) → Holds same s p k → Holds same s p l → OneOf k l
 
   -- the records say the same
-  abbrev pub SameRecord : Record → Record → Type 0
-  SameRecord Empty Empty = Unit {0}
-  SameRecord Empty (Taken u) = ⊥
-  SameRecord (Taken t) Empty = ⊥
-  SameRecord (Taken t) (Taken u) = (t.count ≡ u.count) × (t.sets ≡ u.sets)
+  abbrev pub SameRecord : Option Summary → Option Summary → Type 0
+  SameRecord None None = Unit {0}
+  SameRecord None (Some u) = ⊥
+  SameRecord (Some t) None = ⊥
+  SameRecord (Some t) (Some u) = (t.count ≡ u.count) × (t.sets ≡ u.sets)
 
   pub record SameState (t u : State S) : Type 0 where
     pub shelf : (q : ℕ) → SameRecord (record_at t.shelf q) (record_at u.shelf q)

@@ -7,5 +7,5 @@ mod records;
 mod shelves;
 
 pub use place_readers::PlaceReader;
-pub use records::{Record, Summary};
-pub use shelves::{CELLS, PLACES, Shelf};
+pub use records::Summary;
+pub use shelves::{CELLS, MOST_PAIRS, PLACES, Shelf};

@@ -1,4 +1,4 @@
-// What the shelf itself keeps of a place.
+// What the shelf itself keeps of a model.
 ghost use Rattle.std.specs.Prelude.{◌≤◌};
 
 use models::tables::Sets;
@@ -10,11 +10,4 @@ pub struct Summary {
     pub sets: Sets,
     // The positions have cells in the place's stretch.
     ghost fits: { count ≤ 64 },
-}
-
-/// The record of a place.
-#[derive(Clone, Copy)]
-pub enum Record {
-    Empty,
-    Taken(Summary),
 }

@@ -1,16 +1,14 @@
 // The shelf and its calls.
-ghost use Rattle.std.specs.Prelude.{◌≡◌, ◌≤◌, ◌++◌, length, drop, replicate, is_some, Option};
+ghost use Rattle.std.specs.Prelude.{◌≡◌, ◌*◌, length, replicate, cond, is_some, Some, None, Option};
 ghost use Rattle.language.specs.Meaning.{Model, given};
-ghost use Rattle.shelf.specs.Places.{Holds, cells, cells_of, is_taken, record_at, room, state, table_from};
-ghost use Rattle.shelf.specs.Calls.{LoadEnds, Loads, Refines, TakesJust, TrialEnds, Tries, Withdraws, after_load, after_withdraw, states_of, withdraw_ends};
-ghost use Rattle.shelf.specs.declared.records.Record.TheVariants.{Empty};
+ghost use Rattle.shelf.specs.Places.{Holds, cells, cells_of, record_at, room, state, table_from};
+ghost use Rattle.shelf.specs.Calls.{LoadEnds, Loads, Refines, TakesJust, TrialEnds, Tries, Withdraws, after_load, after_withdraw, states_of, taken_at, withdraw_ends};
 
 use crate::place_readers::PlaceReader;
-use crate::records::{Record, Summary};
+use crate::records::Summary;
 use faults::Fault;
-use models::study;
-use models::tables::Sets;
 use models::trials::Trial;
+use models::{Automaton, study};
 use symbols::Symbol;
 
 /// How many places a shelf has.
@@ -19,43 +17,43 @@ pub const PLACES: usize = 16;
 /// How many cells of each list a place owns: place p has the cells from 64 × p on.
 pub const CELLS: usize = 64;
 
-/// The records of the places.
+/// The most pairs of a state of a place's model and one of a place's reader: a model has at most 64 positions and a start, and a
+/// reader at most 65 states and one where it is stuck.
+pub const MOST_PAIRS: usize = 65 * 66;
+
+/// The records of the places: what is kept of the model of each, if it is taken.
 #[derive(Drop)]
 pub struct Shelf {
-    records: [Record; PLACES],
+    records: [Option<Summary>; PLACES],
 }
 
-/// Whether a place is one of the sixteen, and lists of these lengths have its cells.
-fn exists(place: usize, symbols: usize, numbers: usize) -> bool
-    ensures { result ≡ room symbols numbers place }
+/// Where the cells of a place begin, if it is one of the sixteen and lists of these lengths have its cells.
+fn first_cell(place: usize, symbols: usize, numbers: usize) -> Option<usize>
+    ensures { result ≡ cond (room symbols numbers place) (Some (place * 64)) None }
 {
-    place < PLACES && place * CELLS + CELLS <= symbols && place * CELLS + CELLS <= numbers
+    (place < PLACES && place * CELLS + CELLS <= symbols.min(numbers)).then(|| place * CELLS)
 }
 
-/// Copies the items to the first cells.
-fn fill<T: Copy>(cells: &mut [T], items: &[T])
-    requires { length items.now ≤ length cells.old }
-    ensures { cells.new ≡ items.now ++ drop (length items.now) cells.old }
-{
-    cells[0..items.len()].copy_from_slice(items);
-}
-
-/// What the shelf keeps of a model with so many positions and these sets.
-fn summary(count: usize, sets: Sets) -> Summary
-    requires { count ≤ 64 }
-    ensures { (result.count ≡ count) × (result.sets ≡ sets) }
-{
-    Summary { count, sets }
-}
-
+// Both lists are lent to each call as lists, since the caller keeps them, be it a program or one in C: a load writes to them, and
+// `withdraw`, `stand`, `reader` and `trial` only read them.
 impl Shelf {
     /// A shelf whose places are empty.
     pub fn new() -> Shelf
-        ensures { result.records ≡ replicate 16 Empty }
+        ensures { result.records ≡ replicate 16 None }
     {
         Shelf {
-            records: [Record::Empty; PLACES],
+            records: [None; PLACES],
         }
+    }
+
+    /// Where the cells of a taken place begin in lists of these lengths, and what is kept of it; if it is none, why calls there are
+    /// refused.
+    fn taken(&self, symbols: usize, numbers: usize, place: usize) -> Result<(usize, Summary), Fault>
+        ensures { result ≡ taken_at (room symbols numbers place) (record_at self.now place) place }
+    {
+        let from = first_cell(place, symbols, numbers).ok_or(Fault::NoPlace { place })?;
+        let kept = self.records[place].ok_or(Fault::Vacant { place })?;
+        Ok((from, kept))
     }
 
     /// Loads a model into an empty place: its symbols and its followers go into the first cells of the place. Refused where there is
@@ -71,17 +69,16 @@ impl Shelf {
         ensures refines { Refines S.Symbol.same (state self.old symbols.old numbers.old) place (after_load result (given codes.now model.now)) (λ k. LoadEnds S.Symbol.same (room (length symbols.old) (length numbers.old) place) (is_some k) place (given codes.now model.now) result) (state self.new symbols.new numbers.new) }
         ensures exact { Loads S.Symbol.same (state self.old symbols.old numbers.old) place (given codes.now model.now) result (state self.new symbols.new numbers.new) }
     {
-        if !exists(place, symbols.len(), numbers.len()) {
-            return Err(Fault::NoPlace { place });
-        }
-        let found = self.records[place];
-        if let Record::Taken(_) = found {
+        let from = first_cell(place, symbols.len(), numbers.len()).ok_or(Fault::NoPlace { place })?;
+        if self.records[place].is_some() {
             return Err(Fault::Taken { place });
         }
-        let from = place * CELLS;
         let sets = study(codes, model, &mut numbers[from..from + CELLS])?;
-        fill(&mut symbols[from..from + CELLS], model);
-        self.records[place] = Record::Taken(summary(model.len(), sets));
+        symbols[from..from + model.len()].copy_from_slice(model);
+        self.records[place] = Some(Summary {
+            count: model.len(),
+            sets,
+        });
         Ok(())
     }
 
@@ -96,7 +93,7 @@ impl Shelf {
         ensures exact { Withdraws (state self.old symbols.now numbers.now) place result (state self.new symbols.now numbers.now) }
     {
         self.stand(symbols, numbers, place)?;
-        self.records[place] = Record::Empty;
+        self.records[place] = None;
         Ok(())
     }
 
@@ -107,17 +104,11 @@ impl Shelf {
         numbers: &[u64],
         place: usize,
     ) -> Result<(), Fault>
-        ensures exact { result ≡ withdraw_ends (room (length symbols.now) (length numbers.now) place) (is_taken (record_at self.now place)) place }
+        ensures exact { result ≡ withdraw_ends (room (length symbols.now) (length numbers.now) place) (is_some (record_at self.now place)) place }
         ensures refines { (k : Option (Model S)) → Holds S.Symbol.same (state self.now symbols.now numbers.now) place k → result ≡ withdraw_ends (room (length symbols.now) (length numbers.now) place) (is_some k) place }
     {
-        if !exists(place, symbols.len(), numbers.len()) {
-            return Err(Fault::NoPlace { place });
-        }
-        let found = self.records[place];
-        match found {
-            Record::Empty => Err(Fault::Vacant { place }),
-            Record::Taken(_) => Ok(()),
-        }
+        self.taken(symbols.len(), numbers.len(), place)?;
+        Ok(())
     }
 
     /// The reader of the place: it takes just the words of what the place holds, and none where there is no such place.
@@ -127,30 +118,18 @@ impl Shelf {
         numbers: &'b [u64],
         place: usize,
     ) -> PlaceReader<'a, 'b, S>
-        ensures exact { cells result.symbols.now result.followers.now result.sets ≡ cells_of (state self.now symbols.now numbers.now) place }
-        ensures takes { (k : Option (Model S)) → Holds S.Symbol.same (state self.now symbols.now numbers.now) place k → TakesJust S.Symbol.same k (table_from S.Symbol.same (cells result.symbols.now result.followers.now result.sets)) }
-        ensures states { (k : Option (Model S)) → Holds S.Symbol.same (state self.now symbols.now numbers.now) place k → (table_from S.Symbol.same (cells result.symbols.now result.followers.now result.sets)).states ≡ states_of k }
+        ensures exact { cells result.automaton.symbols.now result.automaton.followers.now result.automaton.sets ≡ cells_of (state self.now symbols.now numbers.now) place }
+        ensures takes { (k : Option (Model S)) → Holds S.Symbol.same (state self.now symbols.now numbers.now) place k → TakesJust S.Symbol.same k (table_from S.Symbol.same (cells result.automaton.symbols.now result.automaton.followers.now result.automaton.sets)) }
+        ensures states { (k : Option (Model S)) → Holds S.Symbol.same (state self.now symbols.now numbers.now) place k → (table_from S.Symbol.same (cells result.automaton.symbols.now result.automaton.followers.now result.automaton.sets)).states ≡ states_of k }
     {
-        let nothing = PlaceReader {
-            symbols: &symbols[0..0],
-            followers: &numbers[0..0],
-            sets: Sets {
-                nullable: false,
-                first: 0,
-                last: 0,
-            },
+        let Ok((from, kept)) = self.taken(symbols.len(), numbers.len(), place) else {
+            return PlaceReader::nothing();
         };
-        if !exists(place, symbols.len(), numbers.len()) {
-            return nothing;
-        }
-        let from = place * CELLS;
-        let found = self.records[place];
-        match found {
-            Record::Empty => nothing,
-            Record::Taken(kept) => PlaceReader {
-                symbols: &symbols[from..from + kept.count],
-                followers: &numbers[from..from + kept.count],
+        PlaceReader {
+            automaton: Automaton {
                 sets: kept.sets,
+                followers: &numbers[from..from + kept.count],
+                symbols: &symbols[from..from + kept.count],
             },
         }
     }
@@ -168,6 +147,6 @@ impl Shelf {
     {
         self.stand(symbols, numbers, place)?;
         let reader = self.reader(symbols, numbers, place);
-        Ok(models::trial(reader.sets, reader.followers, reader.symbols, word))
+        Ok(reader.automaton.trial(word))
     }
 }

@@ -58,7 +58,7 @@ fn compared<S: Row>(rt: &impl Abort, heap: Global, case: &Case) -> Result<(), Fa
     desk.holds(rt, 11, case.other_codes, case.other_letters)?;
     let reader = desk.reader(11);
     let pairs = case.pairs;
-    assert!(rt; pairs >= 1 && pairs <= 256);
+    assert!(rt; (1..=256).contains(&pairs));
     let work_short = Fault::ShortList {
         layer: Layer::Compare,
         cells: 2 * pairs,
@@ -69,10 +69,7 @@ fn compared<S: Row>(rt: &impl Abort, heap: Global, case: &Case) -> Result<(), Fa
     };
     desk.refuses_lists(rt, 2, &reader, 2 * pairs - 1, pairs - 1, work_short)?;
     desk.refuses_lists(rt, 2, &reader, 2 * pairs, pairs - 1, word_short)?;
-    match case.missed {
-        None => desk.includes(rt, 2, &reader, pairs),
-        Some(positions) => desk.misses(rt, 2, &reader, pairs, positions),
-    }
+    desk.compares(rt, 2, &reader, pairs, case.missed)
 }
 
 #[test]
@@ -97,7 +94,7 @@ fn skipped<S: Row>(rt: &impl Abort, heap: Global) -> Result<(), Fail> {
     desk.holds(rt, 0, &[1, 1, 2, 1, 2], b"axb")?;
     desk.holds(rt, 1, &[1, 1, 2], b"ab")?;
     let skip = Skip::new(desk.reader(1));
-    desk.includes(rt, 0, &skip, 16)
+    desk.compares(rt, 0, &skip, 16, None)
 }
 
 /// `(a*)` in limit 2 over itself, which has 6 states: 14 pairs, and a a a, position 1 thrice.
@@ -110,7 +107,7 @@ fn limited<S: Row>(rt: &impl Abort, heap: Global) -> Result<(), Fail> {
         cells: 28,
     };
     desk.refuses_lists(rt, 7, &limit, 27, 14, short)?;
-    desk.misses(rt, 7, &limit, 14, &[1, 1, 1])
+    desk.compares(rt, 7, &limit, 14, Some(&[1, 1, 1]))
 }
 
 /// `(a)` beside an empty place, whose reader takes nothing: a.
@@ -118,7 +115,7 @@ fn beside_nothing<S: Row>(rt: &impl Abort, heap: Global) -> Result<(), Fail> {
     let mut desk = new_desk::<S>(heap)?;
     desk.holds(rt, 7, &[1], b"a")?;
     let nothing = desk.reader(8);
-    desk.misses(rt, 7, &nothing, 4, &[1])
+    desk.compares(rt, 7, &nothing, 4, Some(&[1]))
 }
 
 /// An empty place and no place are refused before the lists are looked at.
@@ -154,10 +151,10 @@ fn channels(rt: HostRuntime) -> Result<(), Fail> {
     cues.holds(&rt, 0, &[1, 1, 2], b"aB")?;
     cues.holds(&rt, 1, &[1, 1, 2], b"Ab")?;
     let reader = cues.reader(1);
-    cues.includes(&rt, 0, &reader, 12)?;
+    cues.compares(&rt, 0, &reader, 12, None)?;
     let mut names = new_desk::<NameRow>(heap)?;
     names.holds(&rt, 0, &[1, 1, 2], b"aB")?;
     names.holds(&rt, 1, &[1, 1, 2], b"Ab")?;
     let reader = names.reader(1);
-    names.misses(&rt, 0, &reader, 12, &[1, 2])
+    names.compares(&rt, 0, &reader, 12, Some(&[1, 2]))
 }

@@ -55,19 +55,19 @@ fn cues(rt: HostRuntime) -> Result<(), Fail> {
 }
 
 /// 64 symbols, then 63 `then`.
+// `model_vectors` has its own, since one crate for both would be proved for tests alone.
 pub fn sequence() -> [u8; 127] {
     let mut codes = [1; 127];
-    for i in 64..127 {
-        codes[i] = 2;
-    }
+    codes[64..].fill(2);
     codes
 }
 
 /// Each of 64 positions is followed by the next.
+// `model_vectors` has its own, since one crate for both would be proved for tests alone.
 fn sequence_followers() -> [u64; 64] {
     let mut followers = [0; 64];
-    for i in 0..63 {
-        followers[i] = 1 << (i + 1);
+    for (i, row) in followers.iter_mut().take(63).enumerate() {
+        *row = 1 << (i + 1);
     }
     followers
 }
@@ -83,11 +83,10 @@ fn whole_places(rt: HostRuntime) -> Result<(), Fail> {
 }
 
 /// 640 empty words, 639 `then`, and a '?'.
+// `model_vectors` has its own, since one crate for both would be proved for tests alone.
 fn empty_codes() -> [u8; 1280] {
     let mut codes = [0; 1280];
-    for i in 640..1279 {
-        codes[i] = 2;
-    }
+    codes[640..1279].fill(2);
     codes[1279] = 4;
     codes
 }

@@ -6,41 +6,22 @@ use faults::Fault;
 use readers::limit::Limit;
 use readers::skip::Skip;
 use readers::{Reader, takes};
-use std::alloc::{AllocError, Global};
+use std::alloc::Global;
 use std::process::Abort;
 use std::test::*;
 use symbols::cue_rows::CueRow;
 use symbols::name_rows::NameRow;
 
-/// Whether the reader takes the word of the letters.
-fn takes_letters<S: Row, R: Reader<S>>(
+/// Holds where it takes the word, or doesn't, as it should.
+fn judges<S: Row, R: Reader<S>>(
+    rt: &impl Abort,
     heap: Global,
     reader: &R,
     letters: &[u8],
-) -> Result<bool, AllocError> {
+    expected: bool,
+) -> Result<(), Fail> {
     let word = spelled::<S>(heap, letters)?;
-    Ok(takes(reader, word.as_slice()))
-}
-
-/// Holds where it does.
-fn accepts<S: Row, R: Reader<S>>(
-    rt: &impl Abort,
-    heap: Global,
-    reader: &R,
-    letters: &[u8],
-) -> Result<(), Fail> {
-    assert!(rt; takes_letters(heap, reader, letters)?);
-    Ok(())
-}
-
-/// Holds where it doesn't.
-fn rejects<S: Row, R: Reader<S>>(
-    rt: &impl Abort,
-    heap: Global,
-    reader: &R,
-    letters: &[u8],
-) -> Result<(), Fail> {
-    assert!(rt; !takes_letters(heap, reader, letters)?);
+    assert_eq!(rt; takes(reader, &word), expected);
     Ok(())
 }
 
@@ -50,16 +31,16 @@ fn skipped<S: Row>(rt: &impl Abort, heap: Global) -> Result<(), Fail> {
     desk.holds(rt, 9, &[1, 1, 2], b"ab")?;
     let bare = desk.reader(9);
     assert_eq!(rt; bare.states(), 3);
-    accepts(rt, heap, &bare, b"ab")?;
-    rejects(rt, heap, &bare, b"axb")?;
-    rejects(rt, heap, &bare, b"a")?;
+    judges(rt, heap, &bare, b"ab", true)?;
+    judges(rt, heap, &bare, b"axb", false)?;
+    judges(rt, heap, &bare, b"a", false)?;
     let skip = Skip::new(desk.reader(9));
     assert_eq!(rt; skip.states(), 3);
-    accepts(rt, heap, &skip, b"ab")?;
-    accepts(rt, heap, &skip, b"axb")?;
-    accepts(rt, heap, &skip, b"xxaxbx")?;
-    rejects(rt, heap, &skip, b"ax")?;
-    rejects(rt, heap, &skip, b"abb")
+    judges(rt, heap, &skip, b"ab", true)?;
+    judges(rt, heap, &skip, b"axb", true)?;
+    judges(rt, heap, &skip, b"xxaxbx", true)?;
+    judges(rt, heap, &skip, b"ax", false)?;
+    judges(rt, heap, &skip, b"abb", false)
 }
 
 /// `(a*)`, and limit 2 over it.
@@ -68,23 +49,35 @@ fn limited<S: Row>(rt: &impl Abort, heap: Global) -> Result<(), Fail> {
     desk.holds(rt, 0, &[1, 5], b"a")?;
     let bare = desk.reader(0);
     assert_eq!(rt; bare.states(), 2);
-    accepts(rt, heap, &bare, b"aaaaaaaaaa")?;
+    judges(rt, heap, &bare, b"aaaaaaaaaa", true)?;
     let limit = Limit::new(desk.reader(0), 2);
     assert_eq!(rt; limit.limit(), 2);
     assert_eq!(rt; limit.states(), 6);
-    accepts(rt, heap, &limit, b"")?;
-    accepts(rt, heap, &limit, b"a")?;
-    accepts(rt, heap, &limit, b"aa")?;
-    rejects(rt, heap, &limit, b"aaa")?;
-    rejects(rt, heap, &limit, b"ab")
+    judges(rt, heap, &limit, b"", true)?;
+    judges(rt, heap, &limit, b"a", true)?;
+    judges(rt, heap, &limit, b"aa", true)?;
+    judges(rt, heap, &limit, b"aaa", false)?;
+    judges(rt, heap, &limit, b"ab", false)
 }
 
 /// `(a)`: skip over limit 1 passes over foreign symbols before they are counted, limit 1 over skip counts them.
 fn piled<S: Row>(rt: &impl Abort, heap: Global) -> Result<(), Fail> {
     let mut desk = new_desk::<S>(heap)?;
     desk.holds(rt, 3, &[1], b"a")?;
-    accepts(rt, heap, &Skip::new(Limit::new(desk.reader(3), 1)), b"axx")?;
-    rejects(rt, heap, &Limit::new(Skip::new(desk.reader(3)), 1), b"axx")
+    judges(
+        rt,
+        heap,
+        &Skip::new(Limit::new(desk.reader(3), 1)),
+        b"axx",
+        true,
+    )?;
+    judges(
+        rt,
+        heap,
+        &Limit::new(Skip::new(desk.reader(3)), 1),
+        b"axx",
+        false,
+    )
 }
 
 /// The reader of an empty place, and of no place, has one state and takes nothing.
@@ -97,8 +90,8 @@ fn empty<S: Row>(rt: &impl Abort, heap: Global) -> Result<(), Fail> {
         assert_eq!(rt; reader.states(), 1);
         assert_eq!(rt; reader.start(), 0);
         assert!(rt; !reader.is_ending(0));
-        rejects(rt, heap, &reader, b"")?;
-        rejects(rt, heap, &reader, b"a")?;
+        judges(rt, heap, &reader, b"", false)?;
+        judges(rt, heap, &reader, b"a", false)?;
     }
     Ok(())
 }
@@ -127,8 +120,8 @@ fn one_state(rt: HostRuntime) -> Result<(), Fail> {
     desk.holds(&rt, 5, &[0], b"")?;
     let reader = desk.reader(5);
     assert_eq!(rt; reader.states(), 1);
-    accepts(&rt, heap, &reader, b"")?;
-    rejects(&rt, heap, &reader, b"a")
+    judges(&rt, heap, &reader, b"", true)?;
+    judges(&rt, heap, &reader, b"a", false)
 }
 
 /// Over 65 states a limit of 62 has 63 × 65 = 4,095 states, and one of 63 would have 4,160.
@@ -139,8 +132,8 @@ fn greatest_limit(rt: HostRuntime) -> Result<(), Fail> {
     desk.holds(&rt, 15, &sequence(), &[b'a'; 64])?;
     let reader = desk.reader(15);
     assert_eq!(rt; reader.states(), 65);
-    accepts(&rt, heap, &reader, &[b'a'; 64])?;
-    rejects(&rt, heap, &reader, &[b'a'; 63])?;
+    judges(&rt, heap, &reader, &[b'a'; 64], true)?;
+    judges(&rt, heap, &reader, &[b'a'; 63], false)?;
     assert_eq!(rt; Limit::fit(&reader, 62), Ok(()));
     assert_eq!(rt; Limit::fit(&reader, 63), Err(Fault::Unfit { greatest: 62 }));
     let limit = Limit::new(reader, 63);

@@ -127,12 +127,9 @@ fn refuses_over(
     fault: Fault,
 ) -> Result<(), Fail> {
     assert_eq!(rt; load_over(shelf, symbols, numbers, place), Err(fault));
-    for symbol in &*symbols {
-        assert!(rt; symbol.identical(&NameRow::of(b"z")));
-    }
-    for number in &*numbers {
-        assert!(rt; *number == 999);
-    }
+    let blank = NameRow::of(b"z");
+    assert!(rt; symbols.iter().all(|symbol| *symbol == blank));
+    assert!(rt; numbers.iter().all(|number| *number == 999));
     Ok(())
 }
 

@@ -59,6 +59,7 @@ fn turns<S: Row>(rt: &impl Abort, heap: Global) -> Result<(), Fail> {
         MODELS[0].letters,
         MODELS[0].followers,
     )?;
+    // k is the number of a round.
     for k in 0..40 {
         turn(rt, &mut desk, k)?;
     }

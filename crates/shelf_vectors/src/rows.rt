@@ -5,11 +5,8 @@ use symbols::cue_rows::CueRow;
 use symbols::name_rows::NameRow;
 
 /// A kind of symbol that has a row for each letter: a foreign one for `x`, and others for the small letters besides.
-pub trait Row: Symbol {
+pub trait Row: Symbol + PartialEq {
     fn letter(letter: u8) -> Self;
-
-    /// Whether two rows are alike in every byte, those that don't count too.
-    fn identical(&self, other: &Self) -> bool;
 }
 
 impl Row for NameRow {
@@ -19,15 +16,6 @@ impl Row for NameRow {
         } else {
             NameRow::of(&[letter])
         }
-    }
-
-    fn identical(&self, other: &NameRow) -> bool {
-        for i in 0..32 {
-            if self.bytes[i] != other.bytes[i] {
-                return false;
-            }
-        }
-        self.len == other.len
     }
 }
 
@@ -49,17 +37,13 @@ impl Row for CueRow {
             },
         }
     }
-
-    fn identical(&self, other: &CueRow) -> bool {
-        *self == *other
-    }
 }
 
 /// The rows of the letters.
+// `model_vectors` has its own, since one crate for both would be proved for tests alone.
 pub fn spelled<S: Row>(heap: Global, letters: &[u8]) -> Result<Vec<S>, AllocError> {
-    let mut rows = Vec::new(heap);
-    for letter in letters {
-        rows.push(S::letter(*letter))?;
-    }
-    Ok(rows)
+    letters
+        .iter()
+        .map(|&letter| S::letter(letter))
+        .collect(heap)
 }

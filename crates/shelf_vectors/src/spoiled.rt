@@ -21,8 +21,8 @@ fn exact<S: Row>(rt: &impl Abort, desk: &Desk<S>) -> Result<(), Fail> {
     desk.tells(rt, 2, b"abba", Trial::No { longest: 3 })?;
     let first = desk.reader(0);
     let third = desk.reader(2);
-    desk.includes(rt, 0, &third, 12)?;
-    desk.misses(rt, 2, &first, 12, &[1, 2, 2])
+    desk.compares(rt, 0, &third, 12, None)?;
+    desk.compares(rt, 2, &first, 12, Some(&[1, 2, 2]))
 }
 
 /// Calls on place 1, which held `(a,b)`, end, and are refused as before; trials and comparisons change neither list.

@@ -1,14 +1,17 @@
 -- One call on a desk, by a list of one call. Assumes nothing.
-use Rattle.std.proofs.Common.{◌≡◌, ℕ, ◌+◌, ◌*◌, ◌<◌, Bool, true, false, cond, eqb, List, [], ◌∷◌, ◌++◌, length, get_or, take, is_some, Some, Ok, Err, sym, refl, ap, ◌∙◌, subst, inl, inr, arith}
+use Rattle.std.proofs.Common.{◌≡◌, ℕ, ◌+◌, ◌*◌, ◌<◌, Bool, true, false, cond, eqb, List, [], ◌∷◌, ◌++◌, length, get_or, take, is_some, Some, Ok, Err, Result, sym, refl, ap, ◌∙◌, subst, inl, inr, arith}
 use Rattle.std.specs.List.{slice_get}
+use Rattle.std.specs.Result.{is_ok}
 use Rattle.std.proofs.lemmas.Option.{slice_get_past, slice_get-get_or}
 use Rattle.std.proofs.lemmas.List.{length_push, get_or_push, get_or_append_left}
-use Rattle.std.proofs.lemmas.Bool.{cases_order, eq-eqb, ne_eqb, lt-ltb, le-leb, and_from, cond-true, cond-false}
+use Rattle.std.proofs.lemmas.Bool.{cases_order, eq-eqb, ne_eqb, lt-ltb, le-leb, and_from, cond-true, cond-false, false≢true}
 use Rattle.symbols.specs.NameRows.{name_same}
 use Rattle.symbols.specs.declared.name_rows.NameRow.{NameRow}
 use Rattle.language.specs.Meaning.{Model}
 use Rattle.shelf.specs.Places.{has, Holds}
 use Rattle.shelf.specs.Calls.{Done, Judges, LoadEnds}
+use Rattle.comparison.specs.declared.calls.TooFewAnswers.{TooFewAnswers}
+use Rattle.comparison.specs.Answers.{Reply}
 use Rattle.comparison.specs.declared.calls.Answer.{Answer}
 use Rattle.comparison.specs.declared.calls.Answer.TheVariants as answer
 use Rattle.comparison.specs.Runs.{Request, loads, Memory, Plain, answer_of_done, place_of, step, when_done, Did, load, Run, none, more, Says, Lives, rests, calls, Matches, Replayed, Replays}
@@ -16,28 +19,28 @@ use Rattle.slip.specs.declared.desks.Desk.{Desk}
 use Rattle.slip.specs.Desks.{Models, memory_of, Roomy, Has, Said, Called, OfLoad, Next, Puts}
 
 -- a run of one call
-run_one : (s u : Memory NameRow) (ask : Request NameRow) (rs : List Answer) → Run name_same s (ask ∷ []) rs u → (a : Answer) × (rs ≡ a ∷ []) × Did name_same s ask a u
+run_one : (s u : Memory NameRow) (ask : Request NameRow) (rs : List Reply) → Run name_same s (ask ∷ []) rs u → (a : Reply) × (rs ≡ a ∷ []) × Did name_same s ask a u
 run_one s u ask rs (more {r = r} d none) = (r, refl, d)
 
 -- the plain shelf over one call, after which it is over
-rests_one : (places : ℕ → Bool) (work : ℕ) (plain after : Plain NameRow) (word word' : List ℕ) (rs : List Answer) → Lives name_same places work plain word [] rs after word' → (rs ≡ []) × (after ≡ plain) × (word' ≡ word)
+rests_one : (places : ℕ → Bool) (work : ℕ) (plain after : Plain NameRow) (word word' : List ℕ) (rs : List Reply) → Lives name_same places work plain word [] rs after word' → (rs ≡ []) × (after ≡ plain) × (word' ≡ word)
 rests_one places work plain after word word' rs rests = (refl, refl, refl)
 
-lives_one : (places : ℕ → Bool) (work : ℕ) (plain after : Plain NameRow) (word word' : List ℕ) (ask : Request NameRow) (rs : List Answer)
+lives_one : (places : ℕ → Bool) (work : ℕ) (plain after : Plain NameRow) (word word' : List ℕ) (ask : Request NameRow) (rs : List Reply)
     → Lives name_same places work plain word (ask ∷ []) rs after word'
-    → (a : Answer) × (rs ≡ a ∷ []) × Says name_same places work ask (plain (place_of ask)) word a word' × (after ≡ step ask a plain)
+    → (a : Reply) × (rs ≡ a ∷ []) × Says name_same places work ask (plain (place_of ask)) word a word' × (after ≡ step ask a plain)
 lives_one places work plain after word word' ask rs (calls {word' = v} {r = r} {rs = qs} s l) =
     let z = rests_one places work (step ask r plain) after v word' qs l in
-    (r, ap (λ (t : List Answer). r ∷ t) z.0, subst (Says name_same places work ask (plain (place_of ask)) word r) (sym z.2) s, z.1)
+    (r, ap (λ (t : List Reply). r ∷ t) z.0, subst (Says name_same places work ask (plain (place_of ask)) word r) (sym z.2) s, z.1)
 
 -- the one answer stands first
-first_answer : (new : List Answer) (a : Answer) → take 1 new ≡ a ∷ [] → a ≡ get_or new 0 answer.Done
+first_answer : (new : List Reply) (a : Reply) → take 1 new ≡ a ∷ [] → a ≡ get_or new 0 (Ok answer.Done)
 first_answer [] a e = let z : ◌≡◌ {A = ℕ} 0 1 = cc in absurd (omega arith)
 first_answer (b ∷ new) a e = cc
 
-module _ (d e : Desk) (ask : Request NameRow) (old new : List Answer) where
-  abbrev a : Answer
-  a = get_or new 0 answer.Done
+module _ (d e : Desk) (ask : Request NameRow) (old new : List Reply) where
+  abbrev a : Reply
+  a = get_or new 0 (Ok answer.Done)
 
   one_said : Replayed name_same (memory_of d) (ask ∷ []) old new (memory_of e) → (plain : Plain NameRow) → Matches name_same (memory_of d) plain → Said d ask a e plain
   one_said r plain m =
@@ -53,18 +56,32 @@ module _ (d e : Desk) (ask : Request NameRow) (old new : List Answer) where
       let l = run_one (memory_of d) (memory_of e) ask (take 1 new) r.ran in
       subst (λ b. Did name_same (memory_of d) ask b (memory_of e)) (first_answer new l.0 l.1) l.2
 
-  pub called : (Roomy d → Roomy e) → (done : Bool) (asks : List (Request NameRow)) → done ≡ true → asks ≡ ask ∷ [] → Replays name_same done (memory_of d) asks old new (memory_of e) → Called d ask a e
+  -- a replay that is done
+  done_replayed : (done : Result (Unit {0}) TooFewAnswers) (asks : List (Request NameRow)) → is_ok done ≡ true → Replays name_same done (memory_of d) asks old new (memory_of e)
+      → Replayed name_same (memory_of d) asks old new (memory_of e)
+  done_replayed (Ok x) asks p r = r
+  done_replayed (Err f) asks p r = absurd (false≢true p)
+
+  pub called : (Roomy d → Roomy e) → (done : Result (Unit {0}) TooFewAnswers) (asks : List (Request NameRow)) → is_ok done ≡ true → asks ≡ ask ∷ [] → Replays name_same done (memory_of d) asks old new (memory_of e) → Called d ask a e
   called k done asks p q r =
-      let h : Replayed name_same (memory_of d) (ask ∷ []) old new (memory_of e) =
-      subst (λ l. Replayed name_same (memory_of d) l old new (memory_of e)) q (subst (λ b. Replays name_same b (memory_of d) asks old new (memory_of e)) p r) in
+      let h : Replayed name_same (memory_of d) (ask ∷ []) old new (memory_of e) = subst (λ l. Replayed name_same (memory_of d) l old new (memory_of e)) q (done_replayed done asks p r) in
       record { did = one_did h; agrees = one_said h; roomy = k }
 
-did_load : (s u : Memory NameRow) (p : ℕ) (m : Model NameRow) (a : Answer) → Did name_same s (loads p m) a u → OfLoad a
+did_load : (s u : Memory NameRow) (p : ℕ) (m : Model NameRow) (a : Reply) → Did name_same s (loads p m) a u → OfLoad a
 did_load s u p m a (load (Ok t) l) = tt
 did_load s u p m a (load (Err f) l) = tt
 
-pub of_load : (s u : Memory NameRow) (p : ℕ) (m : Model NameRow) (ask : Request NameRow) (a : Answer) → ask ≡ loads p m → Did name_same s ask a u → OfLoad a
+pub of_load : (s u : Memory NameRow) (p : ℕ) (m : Model NameRow) (ask : Request NameRow) (a : Reply) → ask ≡ loads p m → Did name_same s ask a u → OfLoad a
 of_load s u p m ask a e l = did_load s u p m a (subst (λ k. Did name_same s k a u) e l)
+
+-- a load that was not refused is done
+pub load_done : (a : Reply) (x : Answer) → OfLoad a → a ≡ Ok x → a ≡ answer_of_done (Ok tt)
+load_done (Ok answer.Done) x o e = refl
+load_done (Ok answer.Yes) x o e = absurd o
+load_done (Ok (answer.No n)) x o e = absurd o
+load_done (Ok answer.Included) x o e = absurd o
+load_done (Ok (answer.Missed n)) x o e = absurd o
+load_done (Err f) x o e = let z : ◌≡◌ {A = ℕ} 0 1 = cc in absurd (omega arith)
 
 -- one more model stands at the next place
 nth_push : (ms : Models) (m : Model NameRow) (q : ℕ) → cond (eqb q (length ms)) (Some m) (slice_get ms q) ≡ slice_get (ms ++ m ∷ []) q
@@ -91,7 +108,7 @@ same_done (Ok u) (Err f) e = let z : ◌≡◌ {A = ℕ} 0 1 = cc in absurd (ome
 same_done (Err f) (Ok v) e = let z : ◌≡◌ {A = ℕ} 0 1 = cc in absurd (omega arith)
 same_done (Err f) (Err g) e = cc
 
-module _ (d e : Desk) (ms : Models) (place : ℕ) (m : Model NameRow) (ask : Request NameRow) (a : Answer) (h : Has d ms) (n : Next ms place) (asked : ask ≡ loads place m) (made : Called d ask a e) where
+module _ (d e : Desk) (ms : Models) (place : ℕ) (m : Model NameRow) (ask : Request NameRow) (a : Reply) (h : Has d ms) (n : Next ms place) (asked : ask ≡ loads place m) (made : Called d ask a e) where
   c : Called d (loads place m) a e
   c = subst (λ k. Called d k a e) asked made
 
@@ -102,7 +119,7 @@ module _ (d e : Desk) (ms : Models) (place : ℕ) (m : Model NameRow) (ask : Req
       let i : is_some (slice_get ms place) ≡ false = ap is_some (slice_get_past ms place (omega (arith, n.0))) in
       subst (Judges name_same m) z (subst (λ b. LoadEnds name_same b false place m s.0) (there d place h.roomy n.1) (subst (λ b. LoadEnds name_same (has (memory_of d).base place) b place m s.0) i s.2))
 
-  stands : a ≡ answer.Done → Has e (ms ++ m ∷ [])
+  stands : a ≡ Ok answer.Done → Has e (ms ++ m ∷ [])
   stands f = record {
     roomy = c.roomy h.roomy;
     holds = λ q.

@@ -1,5 +1,5 @@
 -- The line of two places of a desk. Assumes nothing.
-use Rattle.std.proofs.Common.{◌≡◌, ℕ, ◌-◌, ◌<◌, ◌≤◌, cond, List, ◌++◌, length, take, is_ok, IfOk, Some, Ok, Err, Result, sym, ap, ◌∙◌, subst, arith}
+use Rattle.std.proofs.Common.{◌≡◌, ℕ, ◌<◌, cond, List, ◌++◌, length, take, is_ok, IfOk, Some, Ok, Err, Result, sym, ap, ◌∙◌, subst, Option}
 use Rattle.std.specs.List.{slice_get}
 use Rattle.std.proofs.lemmas.Bool.{and_parts, ltb-true}
 use Rattle.symbols.specs.NameRows.{row_bytes}
@@ -8,8 +8,6 @@ use Rattle.language.specs.Meaning.{Model, spelled}
 use Rattle.models.specs.declared.tables.Sets.{Sets}
 use Rattle.shelf.specs.Places.{cells, cells_of}
 use Rattle.book.specs.Line.{symbols_shown, line_of}
-use Rattle.book.specs.declared.lines.Verdict.{Verdict}
-use Rattle.book.proofs.Shown.{shown_most}
 use Rattle.slip.specs.declared.desks.Desk.{Desk}
 use Rattle.slip.specs.Printed.{Judged}
 use Rattle.slip.specs.Desks.{Models, memory_of, Has, Found, InRange, Short}
@@ -25,7 +23,7 @@ pub made_told : {T E : Type 0} (r : Result T E) (P : Type 0) (before after line 
 made_told (Ok u) P before after line e f = f e
 made_told (Err u) P before after line e f = tt
 
-module _ (e : Desk) (ms : Models) (h : Has e ms) (first second : ℕ) (m n : Model NameRow) (p : slice_get ms first ≡ Some m) (v : Verdict) (f : Found m n v e.word)
+module _ (e : Desk) (ms : Models) (h : Has e ms) (first second : ℕ) (m n : Model NameRow) (p : slice_get ms first ≡ Some m) (v : Option ℕ) (f : Found m n v e.word)
     (xs : List NameRow) (followers : List ℕ) (sets : Sets) (exact : cells xs followers sets ≡ cells_of (memory_of e).base first) where
   own : xs ≡ m.symbols
   own = reader_symbols (memory_of e).base first m xs followers sets exact (formed_at e ms h first m p).0 (stands_at e ms h first m p)
@@ -35,15 +33,11 @@ module _ (e : Desk) (ms : Models) (h : Has e ms) (first second : ℕ) (m n : Mod
       subst (λ (ys : List NameRow). InRange (length ys) (take count e.word)) (sym own)
       (subst (λ (k : ℕ). InRange (length m.symbols) (take k e.word)) (sym z) (found_range m n (formed_at e ms h first m p).1 e.word v f))
 
-  pub in_word : (count : ℕ) → count ≡ symbols_shown v → count ≤ length e.word
-  in_word count z = omega (arith, shown_most v, h.roomy.word)
-
   pub short : Short v
   short = found_short m n (formed_at e ms h first m p).1 e.word v f h.roomy.word
 
-  pub judged_line : (count : ℕ) (rows : List NameRow) → count ≡ symbols_shown v → take count rows ≡ spelled xs (take count e.word)
-      → (s : List NameRow) × Judged m n v s × (line_of row_bytes first second v (take (count - 0) rows) ≡ line_of row_bytes first second v s)
+  pub judged_line : (count : ℕ) (rows : List NameRow) → count ≡ symbols_shown v → rows ≡ spelled xs (take count e.word)
+      → (s : List NameRow) × Judged m n v s × (line_of row_bytes first second v rows ≡ line_of row_bytes first second v s)
   judged_line count rows z w =
-      let o : count - 0 ≡ count = omega arith in
-      found_judged m n (formed_at e ms h first m p).1 e.word first second v (take (count - 0) rows) f
-      (ap (λ (k : ℕ). take k rows) o ∙ w ∙ ap (λ (ys : List NameRow). spelled ys (take count e.word)) own ∙ ap (λ (k : ℕ). spelled m.symbols (take k e.word)) z)
+      found_judged m n (formed_at e ms h first m p).1 e.word first second v rows f
+      (w ∙ ap (λ (ys : List NameRow). spelled ys (take count e.word)) own ∙ ap (λ (k : ℕ). spelled m.symbols (take k e.word)) z)

@@ -1,5 +1,5 @@
 -- What is loaded of a text. Assumes nothing.
-use Rattle.std.proofs.Common.{◌≡◌, ℕ, ◌-◌, ◌≤◌, List, map, length, take, drop, Ok, Err, sym, ap, ◌∙◌, subst, arith}
+use Rattle.std.proofs.Common.{◌≡◌, ℕ, ◌≤◌, List, map, length, take, drop, Ok, Err, sym, ap, ◌∙◌, subst, arith}
 use Rattle.std.proofs.lemmas.List.{take_at, length-append, length-map}
 use Rattle.faults.specs.declared.Fault.{Fault}
 use Rattle.symbols.specs.NameRows.{name_row, name_same}
@@ -32,21 +32,21 @@ module _ (t cs cs' : List ℕ) (rs rs' : List NameRow) (r : Counts) (a : Answer 
       omega (arith, T.codes)
 
   -- the codes and the names that were read are those of the text's model
-  pub text_of : TextOf t (given (take (r.codes - 0) cs') (take (r.names - 0) rs'))
+  pub text_of : TextOf t (given (take r.codes cs') (take r.names rs'))
   text_of =
       let T = a.2 in
       let w = a.0 in
       let ns = a.1 in
-      let i : length w ≡ r.codes - 0 = omega (arith, T.codes) in
-      let j : length (map name_row ns) ≡ r.names - 0 = omega (arith, T.names, length-map ns name_row) in
-      let c : take (r.codes - 0) cs' ≡ w = ap (take (r.codes - 0)) T.wrote ∙ take_at w (drop (length w) cs) (r.codes - 0) i in
-      let n : take (r.names - 0) rs' ≡ map name_row ns = ap (take (r.names - 0)) T.named ∙ take_at (map name_row ns) (drop (length ns) rs) (r.names - 0) j in
+      let i : length w ≡ r.codes = omega (arith, T.codes) in
+      let j : length (map name_row ns) ≡ r.names = omega (arith, T.names, length-map ns name_row) in
+      let c : take r.codes cs' ≡ w = ap (take r.codes) T.wrote ∙ take_at w (drop (length w) cs) r.codes i in
+      let n : take r.names rs' ≡ map name_row ns = ap (take r.names) T.named ∙ take_at (map name_row ns) (drop (length ns) rs) r.names j in
       record {
         short = T.fits.short;
         codes = w;
         names = ns;
         within = T.within;
-        model = ap (λ (u : List ℕ). given u (take (r.names - 0) rs')) c ∙ ap (given w) n;
+        model = ap (λ (u : List ℕ). given u (take r.names rs')) c ∙ ap (given w) n;
       }
 
 -- the model of a text can only be ambiguous

@@ -1,5 +1,5 @@
 -- The same is printed for the same bytes. Assumes nothing.
-use Rattle.std.proofs.Common.{◌≡◌, ℕ, zero, suc, ◌<◌, List, [], ◌∷◌, ◌++◌, length, get_or, sym, refl, ap, ◌∙◌, subst, inl, inr, arith}
+use Rattle.std.proofs.Common.{◌≡◌, ℕ, zero, suc, ◌<◌, List, [], ◌∷◌, ◌++◌, length, get_or, sym, refl, ap, ◌∙◌, subst, inl, inr, arith, Option, Some}
 use Rattle.std.proofs.lemmas.Bool.{cases_order}
 use Rattle.faults.specs.declared.Fault.{Fault}
 use Rattle.symbols.specs.NameRows.{row_bytes, name_same, name_laws}
@@ -7,8 +7,6 @@ use Rattle.symbols.specs.declared.name_rows.NameRow.{NameRow}
 use Rattle.language.specs.Meaning.{Model, Formed, spelled}
 use Rattle.book.specs.Books.{IsBook}
 use Rattle.book.specs.Line.{line_of}
-use Rattle.book.specs.declared.lines.Verdict.{Verdict}
-use Rattle.book.specs.declared.lines.Verdict.TheVariants as verdict
 use Rattle.book.proofs.Theorems.{refusals_stand, one_fault, bodies_stand}
 use Rattle.verdicts.specs.Texts.{Gives, Faulty}
 use Rattle.verdicts.proofs.Formed.{texts_are_formed}
@@ -51,13 +49,13 @@ one_faulty bs j k f g p q = elim (cases_order j k) [
 not_faulty : (bs : List (List ℕ)) (ms : List (Model NameRow)) (k : ℕ) (f : Fault) → AllGive bs ms → FirstFaulty bs k f → ⊥
 not_faulty bs ms k f a p = let m = given_at bs ms a k p.inside in one_meaning.either (get_or bs k []) m.0 f m.1 p.here
 
-one_judged : (m n : Model NameRow) (v u : Verdict) (s t : List NameRow) → Formed m → Judged m n v s → Judged m n u t → (v ≡ u) × (s ≡ t)
+one_judged : (m n : Model NameRow) (v u : Option ℕ) (s t : List NameRow) → Formed m → Judged m n v s → Judged m n u t → (v ≡ u) × (s ≡ t)
 one_judged m n v u s t F (included i) (included j) = (refl, refl)
 one_judged m n v u s t F (included i) (not_included {w = w} l e d) = absurd ((one_verdict name_same name_laws).either m n w F i l)
 one_judged m n v u s t F (not_included {w = w} l e d) (included i) = absurd ((one_verdict name_same name_laws).either m n w F i l)
 one_judged m n v u s t F (not_included {l = k} {w = w} l e d) (not_included {l = k'} {w = w'} l' e' d') =
     let z = (one_verdict name_same name_laws).word m n w w' l l' in
-    (ap verdict.Not (e ∙ ap length z ∙ sym e'), d ∙ ap (spelled m.symbols) z ∙ sym d')
+    (ap Some (e ∙ ap length z ∙ sym e'), d ∙ ap (spelled m.symbols) z ∙ sym d')
 
 one_lines : (p : ℕ) (bs : List (List ℕ)) (ms : List (Model NameRow)) (a b : List ℕ) → AllGive bs ms → Lines p ms a → Lines p ms b → a ≡ b
 one_lines p bs ms a b A one one = refl
@@ -68,7 +66,7 @@ one_lines p bs ms a b (more {b = t} {bs = ts} {m = m} g A) (next {q = q} {n = n}
     let i = z.0 in
     let o = z.1 in
     let y : line_of row_bytes p q v s ++ x ≡ line_of row_bytes p q' v' s' ++ x' =
-    ap (λ (n : ℕ). line_of row_bytes p n v s ++ x) k ∙ ap (λ (u : Verdict). line_of row_bytes p q' u s ++ x) i ∙ ap (λ (r : List NameRow). line_of row_bytes p q' v' r ++ x) o ∙ ap (λ (r : List ℕ). line_of row_bytes p q' v' s' ++ r) h in
+    ap (λ (n : ℕ). line_of row_bytes p n v s ++ x) k ∙ ap (λ (u : Option ℕ). line_of row_bytes p q' u s ++ x) i ∙ ap (λ (r : List NameRow). line_of row_bytes p q' v' r ++ x) o ∙ ap (λ (r : List ℕ). line_of row_bytes p q' v' s' ++ r) h in
     d ∙ y ∙ sym d'
 
 pub once : OneSlip

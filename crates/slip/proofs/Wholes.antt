@@ -1,5 +1,5 @@
 -- From the steps of printing to all that is printed. Assumes nothing.
-use Rattle.std.proofs.Common.{◌≡◌, ℕ, ◌+◌, ◌<◌, ◌≤◌, List, [], ◌∷◌, ◌++◌, length, get_or, take, drop, sym, refl, ap, ◌∙◌, subst, arith}
+use Rattle.std.proofs.Common.{◌≡◌, ℕ, ◌+◌, ◌<◌, ◌≤◌, List, [], ◌∷◌, ◌++◌, length, get_or, take, drop, false, Err, Ok, Result, IsErrAnd, MatchResult, codes, decimal, sym, refl, ap, ◌∙◌, subst, arith}
 use Rattle.std.proofs.lemmas.Option.{slice_get-get_or}
 use Rattle.std.proofs.lemmas.List.{append-nil, append_assoc, take_more, take_all, drop_more, drop_all, length-take, get_or-take}
 use Rattle.faults.specs.declared.Fault.{Fault}
@@ -8,8 +8,15 @@ use Rattle.symbols.specs.declared.name_rows.NameRow.{NameRow}
 use Rattle.language.specs.Meaning.{Model, given}
 use Rattle.book.specs.Line.{line_of}
 use Rattle.verdicts.specs.Texts.{Gives, Faulty}
-use Rattle.slip.specs.Printed.{AllGive, none, more, FirstFaulty, Lines, one, next}
-use Rattle.slip.specs.Desks.{Models, Told}
+use Rattle.slip.specs.Printed.{AllGive, none, more, FirstFaulty, Lines, one, next, Printed, no_book, no_model}
+use Rattle.slip.specs.Desks.{Models, Reads, Told}
+use Rattle.slip.specs.declared.desks.Desk.{Desk}
+use Rattle.slip.specs.declared.refusals.Refusal.{Refusal}
+use Rattle.slip.specs.declared.refusals.Refusal.TheVariants.{Book, Body}
+use Rattle.slip.specs.Loads.{Loads, LoadsBook}
+use Rattle.slip.specs.Refusals.{refusal_shown}
+use Rattle.faults.specs.Shown.{numbered_shown, fault_shown}
+use Rattle.shelf.specs.Calls.{Done}
 use Rattle.slip.proofs.Once.{given_at}
 
 -- there are as many models as bodies
@@ -66,3 +73,20 @@ lines_end ms k text h f =
     let m = get_or ms k (given [] []) in
     let e : drop k ms ≡ m ∷ [] = drop_more ms k (given [] []) (omega arith) ∙ ap (λ (ns : Models). m ∷ ns) (drop_all (k + 1) ms (omega arith)) in
     subst (Lines 0 ms) (append-nil text) (f [] (subst (λ (ns : Models). Lines k ns []) (sym e) one))
+
+-- the body is the first that gives no model, where its fault was made a refusal
+pub refused_body : (bodies : List (List ℕ)) (k : ℕ) (ms : Models) (d : Desk) (r : Done) (q : Result (Unit {0}) Refusal) (x : Refusal) (P : Fault → Refusal → Type 0) → k < length bodies → AllGive (take k bodies) ms
+    → MatchResult r (λ u. q ≡ Ok u) (λ f. IsErrAnd q (P f)) → ((f : Fault) (e : Refusal) → P f e → e ≡ Body k f) → q ≡ Err x → Reads ms (get_or bodies k []) r d → Loads bodies (Err x) d
+refused_body bodies k ms d (Ok u) q x P h a m t e g = absurd (cc)
+refused_body bodies k ms d (Err f) (Ok u) x P h a m t e g = absurd m
+refused_body bodies k ms d (Err f) (Err y) x P h a m t e g =
+    let y-is = t f y m in
+    let z : x ≡ Body k f = cc in
+    subst (λ (w : Refusal). Loads bodies (Err w) d) (sym z) (first_faulty bodies k ms f h a g)
+
+-- what is printed for a refusal
+pub printed_refusal : (bytes out : List ℕ) (r : Refusal) (d : Desk) → LoadsBook bytes (Err r) d → out ≡ refusal_shown r ++ 10 ∷ [] → Printed bytes out false
+printed_refusal bytes out (Book f) d h e = no_book h (e ∙ append_assoc (codes "book: ") (numbered_shown f) (10 ∷ []))
+printed_refusal bytes out (Body k f) d h e =
+    no_model h.0 h.1 (e ∙ append_assoc (codes "body ") (decimal k ++ (codes ": " ++ fault_shown f)) (10 ∷ [])
+    ∙ ap (λ (w : List ℕ). codes "body " ++ w) (append_assoc (decimal k) (codes ": " ++ fault_shown f) (10 ∷ []) ∙ ap (λ (w : List ℕ). decimal k ++ w) (append_assoc (codes ": ") (fault_shown f) (10 ∷ []))))

@@ -2,3 +2,4 @@ pub mod Printed
 pub mod Theorems
 pub mod Desks
 pub mod Loads
+pub mod Refusals

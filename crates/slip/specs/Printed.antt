@@ -1,5 +1,5 @@
 -- What is printed for the bytes of a book: a line for each model and the next, or one line for the first fault. Assumes nothing.
-use Rattle.std.specs.Prelude.{◌≡◌, ℕ, ◌+◌, ◌<◌, Bool, true, false, List, [], ◌∷◌, ◌++◌, length, codes, decimal, slice_index_or}
+use Rattle.std.specs.Prelude.{◌≡◌, ℕ, ◌+◌, ◌<◌, Bool, true, false, List, [], ◌∷◌, ◌++◌, length, codes, decimal, slice_index_or, Option, None, Some}
 use Rattle.faults.specs.declared.Fault.{Fault}
 use Rattle.faults.specs.Shown.{numbered_shown, fault_shown}
 use Rattle.symbols.specs.NameRows.{row_bytes, name_same}
@@ -8,8 +8,6 @@ use Rattle.language.specs.Meaning.{Model, spelled}
 use Rattle.book.specs.Books.{IsBook}
 use Rattle.book.specs.Entries.{Refused}
 use Rattle.book.specs.Line.{line_of}
-use Rattle.book.specs.declared.lines.Verdict.{Verdict}
-use Rattle.book.specs.declared.lines.Verdict.TheVariants as verdict
 use Rattle.verdicts.specs.Texts.{Gives, Faulty}
 use Rattle.verdicts.specs.Verdicts.{Included, LeastMissed}
 
@@ -25,14 +23,14 @@ pub record FirstFaulty (bodies : List (List ℕ)) (k : ℕ) (f : Fault) : Type 0
   pub here : Faulty (slice_index_or bodies k []) f
 
 -- the verdict on the model m against the model n, with the symbols of the least word of m that is none of n, if there is one
-pub data Judged (m n : Model NameRow) : Verdict → List NameRow → Type 0 where
-  included : Included name_same m n → Judged m n verdict.Included []
-  not_included : {l : ℕ} {w : List ℕ} {s : List NameRow} → LeastMissed name_same m n w → l ≡ length w → s ≡ spelled m.symbols w → Judged m n (verdict.Not l) s
+pub data Judged (m n : Model NameRow) : Option ℕ → List NameRow → Type 0 where
+  included : Included name_same m n → Judged m n None []
+  not_included : {l : ℕ} {w : List ℕ} {s : List NameRow} → LeastMissed name_same m n w → l ≡ length w → s ≡ spelled m.symbols w → Judged m n (Some l) s
 
 -- the lines of models of which the first stands at place p: each in the next one
 pub data Lines : ℕ → List (Model NameRow) → List ℕ → Type 0 where
   one : {p : ℕ} {m : Model NameRow} → Lines p (m ∷ []) []
-  next : {p q : ℕ} {m n : Model NameRow} {ms : List (Model NameRow)} {v : Verdict} {s : List NameRow} {rest out : List ℕ}
+  next : {p q : ℕ} {m n : Model NameRow} {ms : List (Model NameRow)} {v : Option ℕ} {s : List NameRow} {rest out : List ℕ}
       → q ≡ p + 1 → Judged m n v s → Lines q (n ∷ ms) rest → out ≡ line_of row_bytes p q v s ++ rest → Lines p (m ∷ (n ∷ ms)) out
 
 -- the line of bytes that are no book

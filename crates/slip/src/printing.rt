@@ -1,61 +1,43 @@
 // What is printed for a book.
-ghost use Rattle.std.specs.Prelude.{◌≡◌, ℕ, ◌<◌, ◌≤◌, List, [], length, IfOk, slice_index_or};
-ghost use Rattle.book.specs.Books.{IsBook};
+ghost use Rattle.std.specs.Prelude.{◌≡◌, ◌≤◌, [], length, IfOk};
 ghost use Rattle.book.specs.Entries.{bodies_in};
-ghost use Rattle.slip.specs.Printed.{Lines, Printed, line_of_book, line_of_body};
-ghost use Rattle.slip.specs.Desks.{Has, Models, Reads};
-ghost use Rattle.slip.specs.Loads.{Loads};
+ghost use Rattle.slip.specs.Printed.{Lines, Printed};
+ghost use Rattle.slip.specs.Desks.{Has, Models};
+ghost use Rattle.slip.specs.Loads.{Loads, LoadsBook};
 
 use crate::desks::Desk;
-use crate::wrongs::Wrong;
+use crate::refusals::Refusal;
 use book::reading::Book;
-use faults::{Fault, Numbered};
 use std::alloc::{AllocError, Global};
 
 /// What is printed for a book, and whether there is no fault.
+// The text is printed alike in both cases, so it is no Result: the flag is only the program's exit status.
 #[derive(Drop)]
 pub struct Slip {
     pub text: Vec<u8>,
     pub whole: bool,
 }
 
-/// The line of bytes that are no book.
-fn book_line(heap: Global, fault: Fault) -> Result<Vec<u8>, AllocError>
-    ensures { IfOk result (λ v. v.items ≡ line_of_book fault) }
-{
-    let numbered = Numbered(fault);
-    let text = format!(in heap; "book: {numbered}\n")?;
-    Ok(text.into_bytes())
-}
-
-/// The line of a body that gives no model.
-fn body_line(heap: Global, body: usize, fault: Fault) -> Result<Vec<u8>, AllocError>
-    ensures { IfOk result (λ v. v.items ≡ line_of_body body fault) }
-{
-    let text = format!(in heap; "body {body}: {fault}\n")?;
-    Ok(text.into_bytes())
-}
-
-/// Loads the model of a body into the place of its number.
-fn load_body(desk: &mut Desk, book: &Book, k: usize) -> Result<(), Fault>
-    ensures { (bodies : List (List ℕ)) (ms : Models) → IsBook book.now.bytes.now bodies → k < length bodies → Has desk.old ms → length ms ≡ k → Reads ms (slice_index_or bodies k []) result desk.new }
-{
-    match book.body(k) {
-        Some(text) => desk.load(k, text),
-        None => Ok(()),
-    }
-}
-
 /// Loads the models of all bodies, up to the first that gives none.
-fn load_all(desk: &mut Desk, book: &Book) -> Result<(), Wrong>
-    ensures { (bodies : List (List ℕ)) → IsBook book.now.bytes.now bodies → Has desk.old [] → Loads bodies result desk.new }
+fn load_all(desk: &mut Desk, book: &Book) -> Result<(), Refusal>
+    ensures { Has desk.old [] → Loads (bodies_in book.now.bytes.now) result desk.new }
 {
-    for k in 0..book.count() {
-        if let Err(fault) = load_body(desk, book, k) {
-            return Err(Wrong { body: k, fault });
-        }
+    // A book has its bodies by number, which is also the place of each.
+    for body in 0..book.count() {
+        let text = book.body(body).unwrap();
+        desk.load(body, text)
+            .map_err(|fault| Refusal::Body { body, fault })?;
     }
     Ok(())
+}
+
+/// Reads a book and loads the models of its bodies, and tells how many there are.
+fn load_book(desk: &mut Desk, bytes: &[u8]) -> Result<usize, Refusal>
+    ensures { Has desk.old [] → LoadsBook bytes.now result desk.new }
+{
+    let book = Book::read(bytes)?;
+    load_all(desk, &book)?;
+    Ok(book.count())
 }
 
 /// The lines of so many models, each against the next.
@@ -64,29 +46,11 @@ fn lines(heap: Global, desk: &mut Desk, count: usize) -> Result<Vec<u8>, AllocEr
     ensures { (ms : Models) → Has desk.old ms → length ms ≡ count → IfOk result (λ v. Lines 0 ms v.items) }
 {
     let mut text = Vec::new(heap);
-    let last = count - 1;
-    for k in 0..last {
+    // Each place with the next one: no list is read at k.
+    for k in 0..count - 1 {
         desk.tell(k, k + 1, &mut text)?;
     }
     Ok(text)
-}
-
-/// What is printed for a book.
-fn book_slip(heap: Global, book: &Book) -> Result<Slip, AllocError>
-    requires { IsBook book.now.bytes.now (bodies_in book.now.bytes.now) }
-    ensures { IfOk result (λ s. Printed book.now.bytes.now s.text.items s.whole) }
-{
-    let mut desk = Desk::new();
-    match load_all(&mut desk, book) {
-        Ok(()) => {
-            let text = lines(heap, &mut desk, book.count())?;
-            Ok(Slip { text, whole: true })
-        }
-        Err(wrong) => {
-            let text = body_line(heap, wrong.body, wrong.fault)?;
-            Ok(Slip { text, whole: false })
-        }
-    }
 }
 
 /// What is printed for the bytes of a book: a line for each model and the next, once all are loaded; or one line where the bytes
@@ -94,14 +58,15 @@ fn book_slip(heap: Global, book: &Book) -> Result<Slip, AllocError>
 pub fn slip_of(heap: Global, bytes: &[u8]) -> Result<Slip, AllocError>
     ensures { IfOk result (λ s. Printed bytes.now s.text.items s.whole) }
 {
-    match Book::read(bytes) {
-        Ok(book) => book_slip(heap, &book),
-        Err(fault) => {
-            let line = book_line(heap, fault)?;
-            Ok(Slip {
-                text: line,
-                whole: false,
-            })
+    let mut desk = Desk::new();
+    match load_book(&mut desk, bytes) {
+        Ok(count) => {
+            let text = lines(heap, &mut desk, count)?;
+            Ok(Slip { text, whole: true })
+        }
+        Err(refusal) => {
+            let text = format!(in heap; "{refusal}\n")?.into_bytes();
+            Ok(Slip { text, whole: false })
         }
     }
 }

@@ -1,63 +1,47 @@
 // The line of two places, behind a text.
-ghost use Rattle.std.specs.Prelude.{◌≡◌, ◌<◌, ◌≤◌, ◌++◌, length, take, is_ok, if◌then◌else◌, OnOk};
+ghost use Rattle.std.specs.Prelude.{◌≡◌, ◌<◌, ◌≤◌, ◌++◌, length, is_ok, if◌then◌else◌, OnOk};
 ghost use Rattle.symbols.specs.NameRows.{row_bytes};
 ghost use Rattle.language.specs.Meaning.{spelled};
 ghost use Rattle.book.specs.Line.{line_of, symbols_shown, Places};
 ghost use Rattle.slip.specs.Desks.{Both, Has, InRange, Models, Short, Told};
 
-use crate::calls::NOTHING;
 use crate::desks::Desk;
-use book::lines::{Verdict, line};
+use arrayvec::ArrayVec;
+use book::lines::{MOST_SHOWN, MOST_TEXT, line, shown_symbols};
 use std::alloc::AllocError;
 use symbols::name_rows::NameRow;
 
-/// The most symbols that a line shows.
-const MOST_SHOWN: usize = 8;
-
-/// More bytes than any line has.
-const LINE: usize = 320;
-
-/// How many symbols of its word a verdict shows.
-fn shown(verdict: Verdict) -> usize
-    ensures { result ≡ symbols_shown verdict }
+/// The symbols of the positions of a word.
+fn spell(symbols: &[NameRow], word: &[u16]) -> ArrayVec<NameRow, MOST_SHOWN>
+    requires within { InRange (length symbols.now) word.now }
+    requires few { length word.now ≤ 8 }
+    ensures symbols { result.items ≡ spelled symbols.now word.now }
+    ensures count { length result.items ≡ length word.now }
 {
-    match verdict {
-        Verdict::Included => 0,
-        Verdict::Not(count) => count.min(MOST_SHOWN),
+    let mut rows = ArrayVec::new();
+    for position in word {
+        rows.push(symbols[usize::from(*position) - 1]);
     }
-}
-
-/// Writes the symbols of the first positions of a word first into the rows.
-fn spell(symbols: &[NameRow], word: &[u16], count: usize, rows: &mut [NameRow])
-    requires within { InRange (length symbols.now) (take count word.now) }
-    requires some { count ≤ length word.now }
-    requires room { count ≤ length rows.old }
-    ensures { take count rows.new ≡ spelled symbols.now (take count word.now) }
-{
-    for i in 0..count {
-        let position = word[i] as usize;
-        rows[i] = symbols[position - 1];
-    }
+    rows
 }
 
 /// Puts the line of two places, a verdict and the first symbols of its word behind a text.
 fn push_line(
     first: usize,
     second: usize,
-    verdict: Verdict,
+    missed: Option<usize>,
     symbols: &[NameRow],
     text: &mut Vec<u8>,
 ) -> Result<(), AllocError>
     requires places { Places first second }
-    requires short { Short verdict }
-    requires enough { symbols_shown verdict ≤ length symbols.now }
-    ensures { text.new.items ≡ (if is_ok result then text.old.items ++ line_of row_bytes first second verdict symbols.now else text.old.items) }
+    requires short { Short missed }
+    requires enough { symbols_shown missed ≤ length symbols.now }
+    ensures { text.new.items ≡ (if is_ok result then text.old.items ++ line_of row_bytes first second missed symbols.now else text.old.items) }
 {
-    let mut cells = [0; LINE];
-    match line(first, second, verdict, symbols, &mut cells) {
-        Ok(size) => text.extend_from_slice(&cells[0..size]),
-        Err(_) => unreachable(),
-    }
+    // An array, since it is lent to `line`, which tells how many cells of it it wrote.
+    let mut cells = [0; MOST_TEXT];
+    let size = line(first, second, missed, symbols, &mut cells).unwrap();
+    text.extend_from_slice(&cells[..size])
 }
 
 impl Desk {
@@ -71,11 +55,15 @@ impl Desk {
         requires { Both self.old first second }
         ensures { (ms : Models) → Has self.old ms → first < length ms → second < length ms → Has self.new ms × OnOk result (Told ms first second text.old.items text.new.items) }
     {
-        let verdict = self.compare(first, second);
-        let count = shown(verdict);
-        let mut rows = [NOTHING; MOST_SHOWN];
+        let missed = self.compare(first, second);
         let model = self.shelf.reader(&self.symbols, &self.numbers, first);
-        spell(model.symbols, &self.word, count, &mut rows);
-        push_line(first, second, verdict, &rows[0..count], text)
+        let word = &self.word[..shown_symbols(missed)];
+        push_line(
+            first,
+            second,
+            missed,
+            &spell(model.automaton.symbols, word),
+            text,
+        )
     }
 }

@@ -1,9 +1,9 @@
 -- The bytes of a row of a name, and when two rows are the same name. Assumes nothing.
-use Rattle.std.specs.Prelude.{ℕ, min, max, Bool, ◌&&◌, List, ◌++◌, length, take, drop, replicate, ◌==◌, nat_le, slice_index, refl}
-use Rattle.std.proofs.Common.{sym, ap, ◌∙◌, arith}
+use Rattle.std.specs.Prelude.{ℕ, min, max, Bool, ◌&&◌, List, ◌++◌, length, take, drop, replicate, ◌==◌, nat_le, slice_index}
+use Rattle.std.proofs.Common.{arith}
 use Rattle.std.specs.Str.{bytes_eq}
 use Rattle.std.proofs.lemmas.Slice.Eq.{bytes_eq-Decides}
-use Rattle.std.proofs.lemmas.List.{length-take, length-append, length-replicate}
+use Rattle.std.proofs.lemmas.Grind.{common_steps}
 use Rattle.symbols.specs.Kinds.{KindLaws}
 use Rattle.symbols.specs.Forms.{Sized}
 use Rattle.symbols.specs.declared.name_rows.NameRow.{NameRow}
@@ -33,15 +33,11 @@ name_foreign a = begins_x (row_bytes a)
 
 pub name_laws : KindLaws name_same name_foreign
 name_laws = record {
-  reflexive = λ a. (bytes_eq-Decides (row_bytes a) (row_bytes a)).1 refl;
-  symmetric = λ a b s. (bytes_eq-Decides (row_bytes b) (row_bytes a)).1 (sym ((bytes_eq-Decides (row_bytes a) (row_bytes b)).0 s));
-  transitive = λ a b c s t. (bytes_eq-Decides (row_bytes a) (row_bytes c)).1 ((bytes_eq-Decides (row_bytes a) (row_bytes b)).0 s ∙ (bytes_eq-Decides (row_bytes b) (row_bytes c)).0 t);
-  alike = λ a b s. ap begins_x ((bytes_eq-Decides (row_bytes a) (row_bytes b)).0 s);
+  reflexive = λ a. grind (arith, bytes_eq-Decides);
+  symmetric = λ a b s. grind (arith, bytes_eq-Decides);
+  transitive = λ a b c s t. grind (arith, bytes_eq-Decides);
+  alike = λ a b s. grind (arith, bytes_eq-Decides);
 }
 
 pub name_sized : (r : NameRow) → Sized (row_bytes r)
-name_sized r =
-    let long = length-take (width r.len) (r.bytes ++ replicate 32 0) in
-    let all = length-append r.bytes (replicate {A = ℕ} 32 0) in
-    let pad = length-replicate {A = ℕ} 32 0 in
-    record { some = omega arith; most = omega arith }
+name_sized r = record { some = grind (arith, common_steps); most = grind (arith, common_steps) }

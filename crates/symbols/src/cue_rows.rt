@@ -2,11 +2,11 @@
 ghost use Rattle.std.specs.Prelude.{◌≡◌, ◌<◌};
 ghost use Rattle.symbols.specs.CueRows.{cue_same, cue_foreign, cue_laws, cue_written, cue_sized, hex_digit};
 
-use super::forms::Form;
+use super::forms::{Form, padded};
 use super::{Printable, Symbol};
 
 /// A cue as plain data: any two bytes, a status and a first data byte.
-#[derive(Clone, Copy, PartialEq, Eq, Debug)]
+#[derive(Clone, Copy, Default, PartialEq, Eq, Debug)]
 #[repr(C)]
 pub struct CueRow {
     pub status: u8,
@@ -25,11 +25,12 @@ impl Symbol for CueRow {
     }
 
     fn foreign(&self) -> bool {
-        self.status / 16 == 11 && self.datum >= 102 && self.datum <= 119
+        self.status / 16 == 11 && (102..=119).contains(&self.datum)
     }
 }
 
 /// A lower-case hexadecimal digit.
+// By hand, since `char::from_digit` answers an `Option<char>`, of which one would have to prove that it is a character of one byte.
 fn hex(n: u8) -> u8
     requires { n < 16 }
     ensures { result ≡ hex_digit n }
@@ -43,14 +44,16 @@ impl Printable for CueRow {
     ghost sized = { cue_sized };
 
     fn written(&self) -> Form {
-        let status = self.status;
-        let datum = self.datum;
-        let mut bytes = [0; 32];
-        bytes[0] = hex(status / 16);
-        bytes[1] = hex(status % 16);
-        bytes[2] = b'.';
-        bytes[3] = hex(datum / 16);
-        bytes[4] = hex(datum % 16);
-        Form { bytes, len: 5 }
+        let text = [
+            hex(self.status / 16),
+            hex(self.status % 16),
+            b'.',
+            hex(self.datum / 16),
+            hex(self.datum % 16),
+        ];
+        Form {
+            bytes: padded(&text),
+            len: text.len(),
+        }
     }
 }

@@ -11,6 +11,7 @@ pub mod forms;
 mod name_bytes;
 pub mod name_rows;
 pub mod names;
+pub mod proper;
 
 use forms::Form;
 

@@ -7,21 +7,15 @@ ghost use Rattle.symbols.specs.Makings.{AllRight, WrongAt};
 fn allows(at: usize, byte: u8) -> bool
     ensures { result ≡ allowed at byte }
 {
-    match byte {
-        b'a'..=b'z' | b'A'..=b'Z' | b'_' | b':' => true,
-        b'0'..=b'9' | b'.' | b'-' => at != 0,
-        _ => false,
-    }
+    matches!(byte, b'a'..=b'z' | b'A'..=b'Z' | b'_' | b':')
+        || at != 0 && matches!(byte, b'0'..=b'9' | b'.' | b'-')
 }
 
 /// The first byte that may not stand where it does.
 pub(crate) fn first_wrong(text: &[u8]) -> Option<usize>
     ensures { MatchOption result (AllRight text.now) (λ at. WrongAt text.now at) }
 {
-    for i in 0..text.len() {
-        if !allows(i, text[i]) {
-            return Some(i);
-        }
-    }
-    None
+    text.iter()
+        .enumerate()
+        .position(|(at, &byte)| !allows(at, byte))
 }

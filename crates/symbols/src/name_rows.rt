@@ -3,29 +3,17 @@ ghost use Rattle.std.specs.Prelude.{◌≡◌, ◌≤◌, length, take, Decides}
 ghost use Rattle.symbols.specs.Rule.{IsName};
 ghost use Rattle.symbols.specs.NameRows.{width, row_bytes, name_row, name_same, name_foreign, name_laws, name_sized};
 
-use super::forms::Form;
+use super::forms::{Form, padded};
 use super::name_bytes::first_wrong;
 use super::{Printable, Symbol};
 
 /// A name as plain data: 32 bytes, and a length that counts as the nearest of 1 to 32.
-#[derive(Clone, Copy)]
+// Lists of rows are lent by C code, in this layout and with any length.
+#[derive(Clone, Copy, Default, PartialEq, Eq, Debug)]
 #[repr(C)]
 pub struct NameRow {
     pub bytes: [u8; 32],
     pub len: u8,
-}
-
-/// The row of at most 32 bytes.
-fn padded(text: &[u8]) -> NameRow
-    requires { length text.now ≤ 32 }
-    ensures { result ≡ name_row text.now }
-{
-    let mut bytes = [0; 32];
-    bytes[0..text.len()].copy_from_slice(text);
-    NameRow {
-        bytes,
-        len: text.len() as u8,
-    }
 }
 
 impl NameRow {
@@ -33,31 +21,32 @@ impl NameRow {
     pub fn of(text: &[u8]) -> NameRow
         ensures { result ≡ name_row (take 32 text.now) }
     {
-        padded(&text[0..text.len().min(32)])
+        let counted = &text[..text.len().min(32)];
+        NameRow {
+            bytes: padded(counted),
+            len: counted.len() as u8,
+        }
     }
 
     /// How many bytes count.
     pub fn width(&self) -> usize
         ensures { result ≡ width self.now.len }
     {
-        self.len.min(32).max(1) as usize
+        self.len.clamp(1, 32) as usize
     }
 
     /// The bytes that count.
     pub fn text(&self) -> &[u8]
         ensures { result.now ≡ row_bytes self.now }
     {
-        &self.bytes[0..self.width()]
+        &self.bytes[..self.width()]
     }
 
     /// Whether the bytes that count are a name.
     pub fn is_name(&self) -> bool
         ensures { Decides result (IsName (row_bytes self.now)) }
     {
-        match first_wrong(self.text()) {
-            None => true,
-            Some(_) => false,
-        }
+        first_wrong(self.text()).is_none()
     }
 }
 
@@ -73,8 +62,7 @@ impl Symbol for NameRow {
     }
 
     fn foreign(&self) -> bool {
-        let text = self.text();
-        text.len() >= 2 && text[0] == b'x' && text[1] == b'-'
+        self.text().starts_with(b"x-")
     }
 }
 

@@ -1,44 +1,40 @@
 // Names: rows of names whose bytes follow the rule of names.
-ghost use Rattle.std.specs.Prelude.{◌≡◌};
+ghost use Rattle.std.specs.Prelude.{◌≡◌, MatchResult};
+ghost use Rattle.std.proofs.Props.{props};
 ghost use Rattle.symbols.specs.Rule.{IsName};
-ghost use Rattle.symbols.specs.NameRows.{row_bytes, name_same, name_foreign, name_laws, name_sized};
-ghost use Rattle.symbols.specs.Kinds.{by_part};
+ghost use Rattle.symbols.specs.NameRows.{row_bytes, name_row};
+ghost use Rattle.symbols.specs.Makings.{NotName};
 
-use super::forms::Form;
+use super::name_bytes::first_wrong;
 use super::name_rows::NameRow;
-use super::{Printable, Symbol};
-
-mod make;
+use super::proper::{Proper, Row};
+use faults::Fault;
 
 /// A name: 1 to 32 bytes, first a letter, `_` or `:`, then these, digits, `.` and `-`.
-#[derive(Clone, Copy)]
-pub struct Name {
-    row: NameRow,
-    ghost ok: { IsName (row_bytes row) },
+pub type Name = Proper<NameRow>;
+
+impl Row for NameRow {
+    ghost proper = { λ r. IsName (row_bytes r) };
+
+    ghost one_way = { λ r. Prim.hlevel props };
 }
 
-impl Symbol for Name {
-    ghost same = { λ a b. name_same a.row b.row };
-
-    ghost foreign = { λ a. name_foreign a.row };
-
-    ghost laws = { by_part (λ a. a.row) name_laws };
-
-    fn same(&self, other: &Name) -> bool {
-        self.row.same(&other.row)
-    }
-
-    fn foreign(&self) -> bool {
-        self.row.foreign()
-    }
-}
-
-impl Printable for Name {
-    ghost written = { λ a. row_bytes a.row };
-
-    ghost sized = { λ a. name_sized a.row };
-
-    fn written(&self) -> Form {
-        self.row.written()
+impl Proper<NameRow> {
+    /// The name of these bytes. Over 32 of them give fault 3 at 0, else the first wrong byte gives 2 there, and no byte 2 at 0.
+    pub fn new(text: &[u8]) -> Result<Name, Fault>
+        ensures { MatchResult result (λ n. n.row ≡ name_row text.now) (λ e. NotName text.now e) }
+    {
+        if text.len() > 32 {
+            return Err(Fault::LongName { at: 0 });
+        }
+        if text.is_empty() {
+            return Err(Fault::Unexpected { at: 0 });
+        }
+        match first_wrong(text) {
+            Some(at) => Err(Fault::Unexpected { at }),
+            None => Ok(Proper {
+                row: NameRow::of(text),
+            }),
+        }
     }
 }

@@ -1,7 +1,8 @@
 -- The greatest limit that fits; a limit's table is lawful. Assumes nothing.
-use Rattle.std.proofs.Common.{◌≡◌, ℕ, ◌+◌, ◌*◌, ◌/◌, ◌%◌, ◌<◌, ◌≤◌, Bool, true, false, cond, ltb, ◌⊎◌, Some, None, Option, sym, refl, ap, subst, inl, inr, mul_comm, mul-one, mul-add, arith}
-use Rattle.std.proofs.lemmas.Nat.{div-add-mod', mul-le, mul-add-lt, div_below, le-div}
-use Rattle.std.proofs.lemmas.Bool.{ltb-true, and_parts, cases_lt}
+use Rattle.std.proofs.Common.{◌≡◌, ℕ, ◌+◌, ◌*◌, ◌/◌, ◌%◌, ◌<◌, ◌≤◌, Bool, true, false, cond, ltb, Some, None, Option, sym, refl, subst, mul_comm, mul-one, mul-add, arith}
+use Rattle.std.proofs.lemmas.Nat.{mul-add-lt, div_below}
+use Rattle.std.proofs.lemmas.Grind.{common_steps}
+use Rattle.std.proofs.lemmas.Bool.{ltb-true, and_parts}
 use Rattle.tables.specs.Tables.{Table, Sound, Alike, onward}
 use Rattle.tables.specs.Layers.{Greatest, greatest, held, limit_table, limited}
 use Rattle.tables.specs.Laws.{HeldLaw}
@@ -9,19 +10,11 @@ use Rattle.tables.proofs.Laws.{none_some}
 
 -- the limit that is computed is the greatest that fits
 pub greatest_is : (m : ℕ) → 1 ≤ m → m ≤ 4096 → Greatest m (greatest m)
-greatest_is m one most =
-    let some : 1 ≤ 4096 / m = le-div 1 4096 m one (omega arith) in
-    let all : greatest m + 1 ≤ 4096 / m = omega arith in (
-      omega (arith, div-add-mod' 4096 m, mul-le m (greatest m + 1) m (4096 / m) (omega arith) all, mul_comm m (4096 / m)),
-      λ k h. let below : k + 1 ≤ 4096 / m = le-div (k + 1) 4096 m one (omega (arith, mul_comm m (k + 1))) in omega arith,
-    )
+greatest_is m one most = (grind (arith, common_steps), λ k h. grind (arith, common_steps))
 
 -- what is held fits
 pub room : (m asked : ℕ) → 1 ≤ m → m ≤ 4096 → m * (held m asked + 1) ≤ 4096
-room m asked one most = omega (arith, (greatest_is m one most).0, mul-le m (held m asked + 1) m (greatest m + 1) (omega arith) (omega arith))
-
-pub held_room : (m asked n : ℕ) → 1 ≤ m → m ≤ 4096 → n ≡ held m asked → m * n + m ≤ 4096
-held_room m asked n one most e = omega (arith, room m asked one most, ap (λ (k : ℕ). m * (k + 1)) e, mul-add m n 1, mul-one m)
+room m asked one most = grind (arith, common_steps)
 
 pub held_is : HeldLaw
 held_is m asked one most =
@@ -30,14 +23,10 @@ held_is m asked one most =
       greatest_fits = g;
       fitting = λ h. omega (arith, g.1 asked h);
       passing = λ h.
-          let over : greatest m < asked = by (cases_lt (greatest m) asked) h in
+          let over : greatest m < asked = grind (arith, common_steps) in
           let top : held m asked ≡ greatest m = omega arith in
           subst (Greatest m) (sym top) g;
     }
-  where
-    by : ((greatest m < asked) ⊎ (asked ≤ greatest m)) → 4096 < m * (asked + 1) → greatest m < asked
-    by (inl l) h = l
-    by (inr l) h = absurd (omega (arith, (greatest_is m one most).0, mul-le m (asked + 1) m (greatest m + 1) (omega arith) (omega arith)))
 
 -- a step of a limit is a step below, one symbol on
 limit_cases : {S : Type 0} (n : ℕ) (t : Table S) (s y : ℕ) (a : S) → (limit_table n t).goes s a ≡ Some y →

@@ -1,7 +1,6 @@
 -- What the reader answers. Assumes nothing.
-use Rattle.std.proofs.Common.{◌≡◌, ℕ, ◌<◌, ◌≤◌, List, ◌++◌, map, length, take, drop, is_ok, Ok, Err, Decides, Result, sym, refl, ap, ◌∙◌, subst, ⊎_elim, arith}
-use Rattle.std.proofs.lemmas.List.{take_all, length-take-le}
-use Rattle.std.proofs.str.Laws.{order}
+use Rattle.std.proofs.Common.{◌≡◌, ℕ, ◌<◌, ◌≤◌, false, List, ◌++◌, map, length, drop, is_ok, Ok, Err, Decides, Result, sym, refl, ap, ◌∙◌, subst, arith}
+use Rattle.std.proofs.lemmas.List.{take_all, length-map}
 use Rattle.faults.specs.declared.Fault.{Fault}
 use Rattle.faults.specs.declared.Fault.TheVariants.{TooLarge, ShortList}
 use Rattle.faults.specs.declared.Layer.TheVariants.{Text}
@@ -20,28 +19,26 @@ use Rattle.text_reader.specs.declared.output.Output.{Output}
 use Rattle.text_reader.specs.Answer.{fault_of, Fits, Refused, few_codes, few_names, long_text, at_strange_byte, at_unexpected, at_long_name, at_too_deep, at_too_many, Readable, Taken, Answer, OneAnswer}
 use Rattle.text_reader.specs.Output.{Holds}
 
--- the cells in use are cells
-pub cells : (o : Output) (w : List ℕ) (ns : List (List ℕ)) → Holds o w ns → o.count ≤ 1280
-cells o w ns h =
-    ⊎_elim (λ l. let z : length (take 1280 w) ≡ length w = ap length (take_all 1280 w (omega arith)) in omega (arith, h.count)) (λ l. let z = length-take-le 1280 w l in omega (arith, h.count)) (order (length w) 1280)
-
 -- what was read, and copied to the lists
-pub taken : (t cs cs' : List ℕ) (rs rs' : List NameRow) (o : Output) (j : ℕ) (w : List ℕ) (ns : List (List ℕ)) → Fits t cs rs → Whole t (good j w ns) → j ≤ length t → Holds o w ns → cs' ≡ take o.count o.codes ++ drop o.count cs → rs' ≡ take o.found o.rows ++ drop o.found rs → Taken t cs rs (record { codes = o.count; names = o.found }) cs' rs' w ns
-taken t cs cs' rs rs' o j w ns f r i h a b =
-    let m = sound_whole t i r in
-    let k = few r in
-    let all : take 1280 w ≡ w = take_all 1280 w (room m k) in
-    let count : o.count ≡ length w = h.count ∙ ap length all in
+pub taken : (t cs : List ℕ) (rs : List NameRow) (o : Output) (j : ℕ) (w : List ℕ) (ns : List (List ℕ)) (r : Counts) (c : List ℕ) (q : List NameRow) →
+    Fits t cs rs → Whole t (good j w ns) → j ≤ length t → Holds o w ns → r.codes ≡ length o.codes.items → r.names ≡ length o.rows.items →
+    c ≡ o.codes.items → q ≡ o.rows.items → Taken t cs rs r (c ++ drop r.codes cs) (q ++ drop r.names rs) w ns
+taken t cs rs o j w ns r c q f g i h x y a b =
+    let m = sound_whole t i g in
+    let k = few g in
+    let all : o.codes.items ≡ w = h.kept ∙ take_all 1280 w (room m k) in
+    let codes : r.codes ≡ length w = x ∙ ap length all in
+    let names : r.names ≡ length ns = y ∙ ap length h.named ∙ length-map ns name_row in
     record {
       fits = f;
       within = record { model = m; few = k };
-      only = λ n d v ms x. one_reading t 32 16 n d w v ns ms m x;
+      only = λ n d v ms e. one_reading t 32 16 n d w v ns ms m e;
       tree = built m;
       are_names = names_are m;
-      codes = count;
-      names = h.found;
-      wrote = a ∙ ap (λ (z : List ℕ). z ++ drop o.count cs) (h.kept ∙ all) ∙ ap (λ (z : ℕ). w ++ drop z cs) count;
-      named = b ∙ ap (λ (z : List NameRow). z ++ drop o.found rs) h.named ∙ ap (λ (z : ℕ). map name_row ns ++ drop z rs) h.found;
+      codes = codes;
+      names = names;
+      wrote = ap (λ (z : List ℕ). z ++ drop r.codes cs) (a ∙ all) ∙ ap (λ (z : ℕ). w ++ drop z cs) codes;
+      named = ap (λ (z : List NameRow). z ++ drop r.names rs) (b ∙ h.named) ∙ ap (λ (z : ℕ). map name_row ns ++ drop z rs) names;
     }
 
 -- the fault of a refused token
@@ -72,6 +69,10 @@ pub exact : (t cs : List ℕ) (rs : List NameRow) (r : Result Counts Fault) (cs'
     Answer t cs rs r cs' rs' → Decides (is_ok r) (Readable t cs rs)
 exact t cs rs (Ok r) cs' rs' a = (λ e. (a.2.fits, (a.0, a.1, a.2.within)), λ x. refl)
 exact t cs rs (Err x) cs' rs' a = (λ e. absurd (let z : ◌≡◌ {A = ℕ} 0 1 = cc in omega arith), λ r. absurd (not_readable t cs rs x a.0 r))
+
+-- what is refused is not readable
+pub unreadable : {t cs : List ℕ} {rs : List NameRow} {x : Fault} → Refused t cs rs x → Decides false (Readable t cs rs)
+unreadable {t} {cs} {rs} {x} r = exact t cs rs (Err x) cs rs (r, refl, refl)
 
 -- the list of codes is too short
 record Few (cs : List ℕ) (x : Fault) : Type 0 where

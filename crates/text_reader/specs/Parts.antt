@@ -5,7 +5,7 @@ use Rattle.faults.specs.declared.Fault.TheVariants.{LongName, TooLarge}
 use Rattle.faults.specs.declared.Layer.TheVariants.{Text}
 use Rattle.grammar.specs.Reads.{Cause, Outcome, good, bad, Part, Reads, Mark, Mixes, Opens, Whole}
 use Rattle.text_reader.specs.Answer.{fault_of}
-use Rattle.text_reader.specs.Output.{Holds, Grew}
+use Rattle.text_reader.specs.Output.{names_in, Holds, Grew}
 use Rattle.text_reader.specs.declared.output.Output.{Output}
 
 -- some token is refused, and x is its fault
@@ -19,10 +19,10 @@ pub record Read (t : List ℕ) (i j : ℕ) (o p : Output) (w : List ℕ) (ns : L
   pub grew : Grew o p w ns
 
 -- the part s from i on, where e more levels may be opened: it ends at j, or a token is refused
-abbrev pub Did : List ℕ → Part → ℕ → ℕ → Output → Result ℕ Fault → Output → Type 0
-Did t s e i o (Ok j) p = (w : List ℕ) × (ns : List (List ℕ)) × Reads t s e i o.found (good j w ns) ×
+abbrev pub Did : Part → ℕ → List ℕ → ℕ → Output → Result ℕ Fault → Output → Type 0
+Did s e t i o (Ok j) p = (w : List ℕ) × (ns : List (List ℕ)) × Reads t s e i (names_in o) (good j w ns) ×
     Read t i j o p w ns
-Did t s e i o (Err x) p = Refuses (λ r. Reads t s e i o.found r) x
+Did s e t i o (Err x) p = Refuses (λ r. Reads t s e i (names_in o) r) x
 
 -- the mark at i, if any, up to j
 abbrev pub DidMark : List ℕ → ℕ → Output → ℕ → Output → Type 0
@@ -45,5 +45,5 @@ DidWhole t (Err x) p = Refuses (λ r. Whole t r) x
 
 -- the name of the bytes n at b is kept, and ends at k; or it is refused
 abbrev pub Keeps : List ℕ → ℕ → Output → Result ℕ Fault → Output → Type 0
-Keeps n b o (Ok k) p = (k ≡ b + length n) × (length n ≤ 32) × (o.found < 64) × Grew o p (1 ∷ []) (n ∷ [])
-Keeps n b o (Err x) p = ((32 < length n) × (x ≡ LongName b)) ⊎ ((length n ≤ 32) × (64 ≤ o.found) × (x ≡ TooLarge Text b))
+Keeps n b o (Ok k) p = (k ≡ b + length n) × (length n ≤ 32) × (names_in o < 64) × Grew o p (1 ∷ []) (n ∷ [])
+Keeps n b o (Err x) p = ((32 < length n) × (x ≡ LongName b)) ⊎ ((length n ≤ 32) × (64 ≤ names_in o) × (x ≡ TooLarge Text b))

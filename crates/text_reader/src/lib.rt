@@ -5,15 +5,15 @@ ghost use Rattle.std.specs.Prelude.{◌≡◌, is_ok, Decides};
 ghost use Rattle.text_reader.specs.Answer.{Answer, Readable, OneAnswer};
 
 mod mixed;
-mod names;
 mod output;
 mod particles;
+mod reader;
 mod whole;
 
 use faults::{Fault, Layer};
-use output::{Output, copy};
+use output::Output;
+use reader::Reader;
 use symbols::name_rows::NameRow;
-use whole::read_whole;
 
 /// The cells that the list of codes must have: the most codes that a text can have.
 pub const MOST_CODES: usize = 1280;
@@ -55,19 +55,23 @@ pub fn read(text: &[u8], codes: &mut [u8], names: &mut [NameRow]) -> Result<Coun
             limit: MOST_TEXT,
         });
     }
-    let mut out = Output::new();
-    let _end = read_whole(text, &mut out)?;
-    copy(&out.codes, out.count, codes);
-    copy(&out.rows, out.found, names);
-    Ok(Counts {
-        codes: out.count,
-        names: out.found,
-    })
+    let mut reader = Reader {
+        text,
+        at: 0,
+        out: Output::new(),
+    };
+    reader.read_whole()?;
+    let out = &reader.out;
+    let counts = Counts {
+        codes: out.codes.len(),
+        names: out.rows.len(),
+    };
+    codes[..counts.codes].copy_from_slice(&out.codes);
+    names[..counts.names].copy_from_slice(&out.rows);
+    Ok(counts)
 }
 
 /// A text and two lists have one answer, and one content of both lists afterwards.
-pub fn one_answer() -> u8
+pub fn one_answer()
     ensures { OneAnswer }
-{
-    0
-}
+{}

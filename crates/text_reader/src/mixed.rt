@@ -1,66 +1,77 @@
 // Mixed models: `#PCDATA`, alone or with names.
 ghost use Rattle.std.specs.Prelude.{◌≡◌};
 ghost use Rattle.grammar.specs.Reads.{named, listed};
+ghost use Rattle.text_reader.specs.Output.{names_in};
 ghost use Rattle.text_reader.specs.Parts.{Did, DidMix};
+ghost use Rattle.text_reader.specs.Readers.{Moves};
 
-use super::names::{refuse, take_name};
-use super::output::Output;
+use super::reader::{Reader, refuse};
+use codes::Code;
 use faults::Fault;
+use tokens::token_at;
 use tokens::types::Token;
-use tokens::{peek, token_at};
 
-/// A name of a mixed model.
-fn read_name(text: &[u8], at: usize, out: &mut Output) -> Result<usize, Fault>
-    ensures { Did text.now named 15 at out.old result out.new }
-{
-    let next = peek(text, at);
-    match next.token {
-        Token::Name(bytes) => take_name(text, next.at, bytes, out),
-        _ => Err(refuse(next)),
-    }
-}
-
-/// The rest of a mixed model behind one of its names, with its closing bracket.
-fn read_names(text: &[u8], at: usize, out: &mut Output) -> Result<usize, Fault>
-    ensures { Did text.now listed 15 at out.old result out.new }
-{
-    let next = peek(text, at);
-    match next.token {
-        Token::Close => Ok(next.at + 1),
-        Token::Bar => {
-            let end = read_name(text, next.at + 1, out)?;
-            out.push(3);
-            read_names(text, end, out)
+impl Reader<'_> {
+    /// A name of a mixed model.
+    fn read_name(&mut self) -> Result<(), Fault>
+        ensures { Moves (Did named 15) self.old result self.new }
+    {
+        let next = self.peek();
+        match next.token {
+            Token::Name(name) => self.take_name(next.at, name),
+            _ => Err(refuse(next)),
         }
-        _ => Err(refuse(next)),
     }
-}
 
-/// A mixed model behind its `#PCDATA`, with the star that must stand behind names.
-pub(crate) fn read_mixed(text: &[u8], at: usize, out: &mut Output) -> Result<usize, Fault>
-    requires { out.old.found ≡ 0 }
-    ensures { DidMix text.now at out.old result out.new }
-{
-    let next = peek(text, at);
-    match next.token {
-        Token::Close => {
-            out.push(0);
-            match token_at(text, next.at + 1) {
-                Token::Star => Ok(next.at + 1 + 1),
-                _ => Ok(next.at + 1),
+    /// The rest of a mixed model behind one of its names, with its closing bracket.
+    fn read_names(&mut self) -> Result<(), Fault>
+        ensures { Moves (Did listed 15) self.old result self.new }
+    {
+        let next = self.peek();
+        match next.token {
+            Token::Close => {
+                self.at = next.at + 1;
+                Ok(())
             }
+            Token::Bar => {
+                self.at = next.at + 1;
+                self.read_name()?;
+                self.out.push(Code::Either);
+                self.read_names()
+            }
+            _ => Err(refuse(next)),
         }
-        Token::Bar => {
-            let first = read_name(text, next.at + 1, out)?;
-            let close = read_names(text, first, out)?;
-            match token_at(text, close) {
-                Token::Star => {
-                    out.push(5);
-                    Ok(close + 1)
+    }
+
+    /// A mixed model behind its `#PCDATA`, with the star that must stand behind names.
+    pub(crate) fn read_mixed(&mut self) -> Result<(), Fault>
+        requires { names_in self.old.out ≡ 0 }
+        ensures { Moves DidMix self.old result self.new }
+    {
+        let next = self.peek();
+        match next.token {
+            Token::Close => {
+                self.out.push(Code::Empty);
+                self.at = next.at + 1;
+                if matches!(token_at(self.text, self.at), Token::Star) {
+                    self.at += 1;
                 }
-                _ => Err(refuse(peek(text, close))),
+                Ok(())
             }
+            Token::Bar => {
+                self.at = next.at + 1;
+                self.read_name()?;
+                self.read_names()?;
+                match token_at(self.text, self.at) {
+                    Token::Star => {
+                        self.out.push(Code::Star);
+                        self.at += 1;
+                        Ok(())
+                    }
+                    _ => Err(refuse(self.peek())),
+                }
+            }
+            _ => Err(refuse(next)),
         }
-        _ => Err(refuse(next)),
     }
 }

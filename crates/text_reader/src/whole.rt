@@ -1,14 +1,12 @@
 // Content specifications, and the whole text.
 ghost use Rattle.std.specs.Prelude.{◌≡◌, [], codes, Decides};
-ghost use Rattle.text_reader.specs.Output.{Holds};
+ghost use Rattle.text_reader.specs.Output.{names_in, Holds};
 ghost use Rattle.text_reader.specs.Parts.{DidOpen, DidWhole};
+ghost use Rattle.text_reader.specs.Readers.{Moves};
 
-use super::mixed::read_mixed;
-use super::names::refuse;
-use super::output::Output;
-use super::particles::{read_body, read_mark};
+use super::reader::{Reader, refuse};
+use codes::Code;
 use faults::Fault;
-use tokens::peek;
 use tokens::types::Token;
 
 /// How many levels may be opened inside the first bracket: sixteen in all.
@@ -24,44 +22,49 @@ fn is_empty(name: &[u8]) -> bool
     name == b"EMPTY".as_slice()
 }
 
-/// A content specification.
-fn read_spec(text: &[u8], out: &mut Output) -> Result<usize, Fault>
-    requires { out.old.found ≡ 0 }
-    ensures { DidOpen text.now 0 out.old result out.new }
-{
-    let first = peek(text, 0);
-    match first.token {
-        Token::Name(bytes) => {
-            if is_empty(bytes) {
-                out.push(0);
-                Ok(first.at + bytes.len())
-            } else {
-                Err(refuse(first))
+impl Reader<'_> {
+    /// A content specification.
+    fn read_spec(&mut self) -> Result<(), Fault>
+        requires { names_in self.old.out ≡ 0 }
+        ensures { Moves DidOpen self.old result self.new }
+    {
+        let first = self.peek();
+        match first.token {
+            Token::Name(name) if is_empty(name) => {
+                self.out.push(Code::Empty);
+                self.at = first.at + name.len();
+                Ok(())
             }
-        }
-        Token::Open => {
-            let next = peek(text, first.at + 1);
-            match next.token {
-                Token::Pcdata => read_mixed(text, next.at + PCDATA_BYTES, out),
-                _ => {
-                    let end = read_body(text, first.at + 1, INNER_LEVELS, out)?;
-                    Ok(read_mark(text, end, out))
+            Token::Open => {
+                self.at = first.at + 1;
+                let next = self.peek();
+                match next.token {
+                    Token::Pcdata => {
+                        self.at = next.at + PCDATA_BYTES;
+                        self.read_mixed()
+                    }
+                    _ => {
+                        self.read_body(INNER_LEVELS)?;
+                        self.read_mark();
+                        Ok(())
+                    }
                 }
             }
+            _ => Err(refuse(first)),
         }
-        _ => Err(refuse(first)),
     }
-}
 
-/// A content specification, and nothing behind it but white space.
-pub(crate) fn read_whole(text: &[u8], out: &mut Output) -> Result<usize, Fault>
-    requires { Holds out.old [] [] }
-    ensures { DidWhole text.now result out.new }
-{
-    let end = read_spec(text, out)?;
-    let last = peek(text, end);
-    match last.token {
-        Token::End => Ok(end),
-        _ => Err(refuse(last)),
+    /// A content specification, and nothing behind it but white space.
+    pub(crate) fn read_whole(&mut self) -> Result<(), Fault>
+        requires start { self.old.at ≡ 0 }
+        requires empty { Holds self.old.out [] [] }
+        ensures { Moves (λ t _ _ x p. DidWhole t x p) self.old result self.new }
+    {
+        self.read_spec()?;
+        let last = self.peek();
+        match last.token {
+            Token::End => Ok(()),
+            _ => Err(refuse(last)),
+        }
     }
 }

@@ -18,11 +18,8 @@ fn levels(rt: HostRuntime) -> Result<(), Fail> {
 fn alternatives(n: usize) -> [u8; 256] {
     let mut text = [b' '; 256];
     text[0] = b'(';
-    for i in 0..100 {
-        if i < n {
-            text[2 * i + 1] = b'a';
-            text[2 * i + 2] = b'|';
-        }
+    for pair in text[1..].chunks_exact_mut(2).take(n) {
+        pair.copy_from_slice(b"a|");
     }
     text
 }
@@ -30,8 +27,8 @@ fn alternatives(n: usize) -> [u8; 256] {
 /// The codes of a choice of 64 names: each but the first with a bar behind it.
 fn alternative_codes() -> [u8; 127] {
     let mut codes = [1; 127];
-    for i in 1..64 {
-        codes[2 * i] = 3;
+    for code in codes.iter_mut().step_by(2).skip(1) {
+        *code = 3;
     }
     codes
 }
@@ -60,9 +57,7 @@ fn too_many_names(rt: HostRuntime) {
 /// `(a|a|..|a|` with 64 names, then a name of 33 bytes.
 fn long_last() -> [u8; 256] {
     let mut text = alternatives(64);
-    for i in 129..162 {
-        text[i] = b'b';
-    }
+    text[129..162].fill(b'b');
     text
 }
 
@@ -76,11 +71,11 @@ fn long_65th_name(rt: HostRuntime) {
 #[test]
 fn length(rt: HostRuntime) -> Result<(), Fail> {
     let mut text = [b' '; 65536];
-    refuses(&rt, &text[0..65535], Fault::Unexpected { at: 65535 });
+    refuses(&rt, &text[..65535], Fault::Unexpected { at: 65535 });
     text[0] = b'(';
     text[65533] = b'a';
     text[65534] = b')';
-    reads(&rt, &text[0..65535], &[1], &[b"a"])?;
+    reads(&rt, &text[..65535], &[1], &[b"a"])?;
     refuses(
         &rt,
         &text,

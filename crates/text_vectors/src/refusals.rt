@@ -121,8 +121,9 @@ const CUT: &[&[u8]] = &[
 #[test]
 fn prefixes(rt: HostRuntime) {
     for text in CUT {
+        // n is a length.
         for n in 0..text.len() {
-            refuses(&rt, &text[0..n], Fault::Unexpected { at: n });
+            refuses(&rt, &text[..n], Fault::Unexpected { at: n });
         }
     }
 }
@@ -131,9 +132,10 @@ fn prefixes(rt: HostRuntime) {
 #[test]
 fn mixed_prefixes(rt: HostRuntime) {
     let text = b"(#PCDATA|a|b)*";
+    // n is a length.
     for n in 0..text.len() {
-        let at = if n >= 2 && n < 8 { 1 } else { n };
-        refuses(&rt, &text[0..n], Fault::Unexpected { at });
+        let at = if (2..8).contains(&n) { 1 } else { n };
+        refuses(&rt, &text[..n], Fault::Unexpected { at });
     }
 }
 
@@ -141,7 +143,8 @@ fn mixed_prefixes(rt: HostRuntime) {
 #[test]
 fn empty_prefixes(rt: HostRuntime) {
     let text = b"EMPTY";
+    // n is a length.
     for n in 0..text.len() {
-        refuses(&rt, &text[0..n], Fault::Unexpected { at: 0 });
+        refuses(&rt, &text[..n], Fault::Unexpected { at: 0 });
     }
 }

@@ -18,47 +18,27 @@ const BLANK: NameRow = NameRow {
 };
 
 /// Whether all cells from `from` on are as they were.
+// Other test crates have such checks of their own, since one crate for all would be proved for tests alone.
 fn kept(codes: &[u8], from: usize) -> bool {
-    for i in from..codes.len() {
-        if codes[i] != MARK {
-            return false;
-        }
-    }
-    true
+    codes.iter().skip(from).all(|code| *code == MARK)
 }
 
 /// Whether a row is as it was.
 fn row_kept(row: &NameRow) -> bool {
-    for i in 0..32 {
-        if row.bytes[i] != MARK {
-            return false;
-        }
-    }
-    row.len == LEN
+    *row == BLANK
 }
 
 /// Whether all rows from `from` on are as they were.
 fn rows_kept(names: &[NameRow], from: usize) -> bool {
-    for i in from..names.len() {
-        if !row_kept(&names[i]) {
-            return false;
-        }
-    }
-    true
+    names.iter().skip(from).all(row_kept)
 }
 
 /// Whether a row holds the bytes of a name, then zeros, and its length.
+// Byte by byte, and not by `NameRow::of`, which is the program's own.
 fn holds(row: &NameRow, name: &[u8]) -> bool {
-    if row.len as usize != name.len() {
-        return false;
-    }
-    for i in 0..32 {
-        let byte = if i < name.len() { name[i] } else { 0 };
-        if row.bytes[i] != byte {
-            return false;
-        }
-    }
-    true
+    row.len as usize == name.len()
+        && row.bytes.starts_with(name)
+        && row.bytes.iter().skip(name.len()).all(|byte| *byte == 0)
 }
 
 /// Whether the text is read as these codes and these names, and no other cell is changed.
@@ -68,13 +48,10 @@ pub fn reads(rt: &impl Abort, text: &[u8], codes: &[u8], names: &[&[u8]]) -> Res
     let counts = read(text, &mut cells, &mut rows)?;
     assert_eq!(rt; counts.codes, codes.len());
     assert_eq!(rt; counts.names, names.len());
-    assert!(rt; codes.len() <= 1280);
-    assert!(rt; names.len() <= 64);
-    for i in 0..codes.len() {
-        assert!(rt; cells[i] == codes[i]);
-    }
-    for i in 0..names.len() {
-        assert!(rt; holds(&rows[i], names[i]));
+    assert!(rt; cells.starts_with(codes));
+    assert!(rt; names.len() <= rows.len());
+    for (row, name) in rows.iter().zip(names) {
+        assert!(rt; holds(row, name));
     }
     assert!(rt; kept(&cells, codes.len()));
     assert!(rt; rows_kept(&rows, names.len()));
@@ -101,5 +78,5 @@ pub fn refuses_lists(rt: &impl Abort, text: &[u8], codes: usize, names: usize, f
     let mut rows = [BLANK; 64];
     assert!(rt; codes <= 1280);
     assert!(rt; names <= 64);
-    refused(rt, text, &mut cells[0..codes], &mut rows[0..names], fault);
+    refused(rt, text, &mut cells[..codes], &mut rows[..names], fault);
 }

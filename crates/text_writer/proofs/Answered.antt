@@ -1,6 +1,8 @@
 -- The writer has one answer. Assumes nothing.
 use Rattle.std.proofs.Common.{◌≡◌, ℕ, ◌<◌, ◌≤◌, List, [], ◌∷◌, ◌++◌, map, length, get_or, take, drop, Ok, Err, sym, ap, ◌∙◌, subst, inl, inr, arith}
+use Rattle.std.specs.List.{All}
 use Rattle.std.proofs.lemmas.Bool.{cases_lt}
+use Rattle.std.proofs.lemmas.List.Elements.{All-nil, All-push, All-append, All-get_or}
 use Rattle.faults.specs.declared.Fault.{Fault}
 use Rattle.faults.specs.declared.Fault.TheVariants.{TooDeep, ShortList, Unwritable}
 use Rattle.faults.specs.declared.Layer.TheVariants.{Text}
@@ -14,7 +16,7 @@ use Rattle.grammar.specs.Trees.{Solid, Plain}
 use Rattle.text_writer.specs.Written.{written}
 use Rattle.text_writer.specs.Levels.{level, Shallow, FirstDeep}
 use Rattle.text_writer.specs.Writes.{FirstEmpty, NoneEmpty, FirstNoName, AllNames, Sayable, Refused, ill_formed, empty_part, no_name, too_deep, no_room, Wrote, OneAnswer}
-use Rattle.text_writer.proofs.Trees.{Each, each_both, each_at, Nonzero}
+use Rattle.text_writer.proofs.Trees.{Nonzero}
 
 -- the least of its kind is one
 least_one : (P : ℕ → Type 0) (i j : ℕ) → P i → P j → ((k : ℕ) → k < i → P k → ⊥) → ((k : ℕ) → k < j → P k → ⊥) → i ≡ j
@@ -24,18 +26,18 @@ least_one P i j p q f g = elim (cases_lt i j) [ inl h ↦ absurd (g i h p) | inr
     under h = elim (cases_lt j i) [ inl k ↦ absurd (f j k q) | inr k ↦ omega arith ]
 
 -- a tree without the empty word has no code 0
-solid_codes : (x : Tree (List ℕ)) → Solid x → Each Nonzero (postfix x)
+solid_codes : (x : Tree (List ℕ)) → Solid x → All Nonzero (postfix x)
 solid_codes empty f = absurd f
-solid_codes (leaf n) f = ((λ e. omega arith), tt)
-solid_codes (then l r) f = each_both Nonzero (postfix l) (postfix r ++ (2 ∷ [])) (solid_codes l f.0) (each_both Nonzero (postfix r) (2 ∷ []) (solid_codes r f.1) ((λ e. omega arith), tt))
-solid_codes (either l r) f = each_both Nonzero (postfix l) (postfix r ++ (3 ∷ [])) (solid_codes l f.0) (each_both Nonzero (postfix r) (3 ∷ []) (solid_codes r f.1) ((λ e. omega arith), tt))
-solid_codes (maybe e) f = each_both Nonzero (postfix e) (4 ∷ []) (solid_codes e f) ((λ e. omega arith), tt)
-solid_codes (many e) f = each_both Nonzero (postfix e) (5 ∷ []) (solid_codes e f) ((λ e. omega arith), tt)
-solid_codes (some e) f = each_both Nonzero (postfix e) (6 ∷ []) (solid_codes e f) ((λ e. omega arith), tt)
+solid_codes (leaf n) f = All-push Nonzero [] 1 (All-nil Nonzero) (λ e. omega arith)
+solid_codes (then l r) f = All-append Nonzero (postfix l) (postfix r ++ (2 ∷ [])) (solid_codes l f.0) (All-push Nonzero (postfix r) 2 (solid_codes r f.1) (λ e. omega arith))
+solid_codes (either l r) f = All-append Nonzero (postfix l) (postfix r ++ (3 ∷ [])) (solid_codes l f.0) (All-push Nonzero (postfix r) 3 (solid_codes r f.1) (λ e. omega arith))
+solid_codes (maybe e) f = All-push Nonzero (postfix e) 4 (solid_codes e f) (λ e. omega arith)
+solid_codes (many e) f = All-push Nonzero (postfix e) 5 (solid_codes e f) (λ e. omega arith)
+solid_codes (some e) f = All-push Nonzero (postfix e) 6 (solid_codes e f) (λ e. omega arith)
 
 plain_none : (x : Tree (List ℕ)) → Plain x → NoneEmpty (postfix x)
 plain_none x (inl e) = inl (subst (λ (y : Tree (List ℕ)). length (postfix y) ≤ 1) (sym e) (omega arith))
-plain_none x (inr f) = inr (each_at Nonzero 0 (postfix x) (solid_codes x f))
+plain_none x (inr f) = inr (λ k h. All-get_or Nonzero (postfix x) k 0 h (solid_codes x f))
 
 not_empty : (cs : List ℕ) (i : ℕ) → FirstEmpty cs i → NoneEmpty cs → ⊥
 not_empty cs i f (inl h) = omega (arith, f.others)

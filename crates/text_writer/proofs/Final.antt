@@ -1,6 +1,7 @@
 -- From the checks and the draft to the writer's answer. Assumes nothing.
 use Rattle.std.proofs.Common.{◌≡◌, ℕ, ◌+◌, ◌≤◌, Bool, true, false, not, ◌&&◌, eqb, leb, List, [], ◌∷◌, ◌++◌, map, length, get_or, drop, Ok, Err, Result, sym, refl, ap, ◌∙◌, subst, inl, inr, append_assoc, append-nil, arith}
-use Rattle.std.proofs.lemmas.List.{take_all}
+use Rattle.std.proofs.Math.Bool.{and-true}
+use Rattle.std.proofs.lemmas.Grind.{common_steps}
 use Rattle.faults.specs.declared.Fault.{Fault}
 use Rattle.symbols.specs.NameRows.{row_bytes}
 use Rattle.symbols.specs.declared.name_rows.NameRow.{NameRow}
@@ -8,18 +9,16 @@ use Rattle.codes.specs.Tree.{Tree, empty, leaf, then, either, maybe, many, some,
 use Rattle.codes.specs.Checked as checked
 use Rattle.grammar.specs.Grammar.{Model}
 use Rattle.grammar.specs.Trees.{Solid, Plain}
-use Rattle.text_writer.specs.declared.draft.Draft.{Draft}
-use Rattle.text_writer.specs.declared.parts.Left.{Left}
+use Rattle.text_writer.specs.declared.parts.Rest.{Rest}
 use Rattle.text_writer.specs.declared.place.Place.TheVariants.{Alone}
 use Rattle.text_writer.specs.Written.{grouped, text, written}
 use Rattle.text_writer.specs.Levels.{Shallow}
-use Rattle.text_writer.specs.Drafts.{content, Room, Grown, Put, ended, Before, SaidTree}
+use Rattle.text_writer.specs.Drafts.{Put, ended, SaidTree}
 use Rattle.text_writer.specs.Writes.{NoneEmpty, AllNames, Sayable, Refused, no_room, Writes, Copied}
 use Rattle.text_writer.proofs.Nest.{Named}
 use Rattle.text_writer.proofs.Round.{round_trip, empty_reads}
 use Rattle.text_writer.proofs.Wrapped.{wrapped, shallow_nest, text_length, grouped_length}
 use Rattle.text_writer.proofs.Trees.{tree_of, plain_from, solid_named}
-use Rattle.text_writer.proofs.Steps.{put_said, said_then, group_ends}
 
 -- the first code of a tree without the empty word is a symbol's
 first_code : {A : Type 0} (x : Tree A) → Solid x → (s : List ℕ) → get_or (postfix x ++ s) 0 0 ≡ 1
@@ -34,14 +33,10 @@ first_code (some e) f s = ap (λ (w : List ℕ). get_or w 0 0) (append_assoc (po
 abbrev pub bare : List ℕ → Bool
 bare cs = leb (length cs) 2 && not (eqb (get_or cs 0 0) 0)
 
-and_true : (b : Bool) → b && true ≡ b
-and_true true = refl
-and_true false = refl
-
 bare_solid : (x : Tree (List ℕ)) → Solid x → bare (postfix x) ≡ leb (length (postfix x)) 2
 bare_solid x f =
     let one : get_or (postfix x) 0 0 ≡ 1 = subst (λ (w : List ℕ). get_or w 0 0 ≡ 1) (append-nil (postfix x)) (first_code x f []) in
-    ap (λ (c : ℕ). leb (length (postfix x)) 2 && not (eqb c 0)) one ∙ and_true (leb (length (postfix x)) 2)
+    ap (λ (c : ℕ). leb (length (postfix x)) 2 && not (eqb c 0)) one ∙ and-true (leb (length (postfix x)) 2)
 
 -- the names of a tree
 named_of : {cs : List ℕ} {ns : List (List ℕ)} {x : Tree (List ℕ)} → Sayable cs ns x → Solid x → Named x
@@ -63,26 +58,15 @@ written_small {cs} {ns} {x} s =
     omega (arith, grouped_length (bare (postfix x)) (text Alone x), text_small s s.plain)
 
 -- brackets for a bare text, its parts from the last to the first, brackets
-pub drafted : (cs : List ℕ) (ns : List (List ℕ)) (x : Tree (List ℕ)) (b : Bool) (l r : Left) (d₀ d₁ d₂ d₃ : Draft) → Sayable cs ns x → b ≡ bare cs → l.codes ≡ length cs → l.names ≡ length ns → content d₀ ≡ [] → d₀.from ≡ 5890
-    → Put d₀ (ended b 41) d₁ → SaidTree cs ns l Alone d₁ r d₂ → Put d₂ (ended b 40) d₃ → content d₃ ≡ written x
-drafted cs ns x b l r d₀ d₁ d₂ d₃ s eb lc ln blank from p₁ t₂ p₃ =
-    let s₁ = put_said cs ns l (ended b 41) d₀ d₁ p₁ in
-    let s₂ = said_then cs ns l l r [] (postfix x) [] (leaves x) (ended b 41) (text Alone x) d₀ d₁ d₂ s₁ (t₂ x) in
-    let s₃ = said_then cs ns l r r _ [] _ [] _ (ended b 40) d₀ d₂ d₃ s₂ (put_said cs ns r (ended b 40) d₂ d₃ p₃) in
-    let whole : ended b 40 ++ (text Alone x ++ ended b 41) ≡ grouped b (text Alone x) = group_ends cs ns b (text Alone x) in
-    let before : Before cs ns l ([] ++ ([] ++ (postfix x ++ []))) ([] ++ ([] ++ (leaves x ++ []))) = record {
-      codes = take_all l.codes cs (omega arith) ∙ s.codes ∙ sym (append-nil (postfix x));
-      count = lc ∙ ap length (s.codes ∙ sym (append-nil (postfix x)));
-      names = take_all l.names ns (omega arith) ∙ s.names ∙ sym (append-nil (leaves x));
-      found = ln ∙ ap length (s.names ∙ sym (append-nil (leaves x)));
-    } in
-    let room : Room d₀ (ended b 40 ++ (text Alone x ++ ended b 41)) = record {
-      enough = omega (arith, ap length whole, grouped_length b (text Alone x), text_small s s.plain);
-      inside = omega arith;
-    } in
-    let g : Grown d₀ (ended b 40 ++ (text Alone x ++ ended b 41)) d₃ = (s₃ [] [] before room).1 in
-    g.text ∙ ap (λ (w : List ℕ). (ended b 40 ++ (text Alone x ++ ended b 41)) ++ w) blank ∙ append-nil _ ∙ whole
-    ∙ ap (λ (v : Bool). grouped v (text Alone x)) (eb ∙ ap bare s.codes) ∙ sym (written_bare x (named_of s) s.plain)
+ends_put : (b : Bool) (t d₁ d₂ d₃ : List ℕ) → length t + 2 ≤ 5890 → Put [] (ended b 41) d₁ → Put d₁ t d₂ → Put d₂ (ended b 40) d₃ → d₃ ≡ grouped b t
+ends_put true t d₁ d₂ d₃ h p₁ p₂ p₃ = grind (arith, common_steps)
+ends_put false t d₁ d₂ d₃ h p₁ p₂ p₃ = grind (arith, common_steps)
+
+pub drafted : (r q : Rest) (x : Tree (List ℕ)) (b : Bool) (d₁ d₂ d₃ : List ℕ) → Sayable r.codes.now (map row_bytes r.names.now) x → b ≡ bare r.codes.now
+    → Put [] (ended b 41) d₁ → SaidTree r Alone d₁ q d₂ → Put d₂ (ended b 40) d₃ → d₃ ≡ written x
+drafted r q x b d₁ d₂ d₃ s e p₁ t p₃ =
+    ends_put b (text Alone x) d₁ d₂ d₃ (text_small s s.plain) p₁ (λ m. (t x [] [] (record { codes = s.codes; names = s.names }) m).1) p₃
+    ∙ ap (λ (v : Bool). grouped v (text Alone x)) (e ∙ ap bare s.codes) ∙ sym (written_bare x (named_of s) s.plain)
 
 -- the tree that checked codes and names say
 pub sayable_of : (cs : List ℕ) (ns : List (List ℕ)) → checked.WellFormed (length ns) cs → NoneEmpty cs → AllNames ns → (x : Tree (List ℕ)) × Sayable cs ns x
@@ -109,6 +93,3 @@ finished cs rs x s out out' (Ok n) y e h k = record {
 }
 finished cs rs x s out out' (Err f) y e h k =
     (subst (λ (g : Fault). Refused cs (map row_bytes rs) (length out) g) (sym k.1) (no_room y (subst Shallow e h) (ap length e) k.0), k.2)
-
-pub refused_as : {cs : List ℕ} {ns : List (List ℕ)} {cells : ℕ} {f g : Fault} → f ≡ g → Refused cs ns cells f → Refused cs ns cells g
-refused_as {cs} {ns} {cells} e r = subst (λ (h : Fault). Refused cs ns cells h) e r

@@ -4,7 +4,6 @@ pub mod Round
 pub mod Low
 pub mod Wrapped
 pub mod Trees
-pub mod Fronts
 pub mod Steps
 pub mod Final
 pub mod Answered

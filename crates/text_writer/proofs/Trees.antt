@@ -1,6 +1,8 @@
 -- The tree of names that codes and names build. Assumes nothing.
-use Rattle.std.proofs.Common.{◌≡◌, ℕ, zero, suc, ◌+◌, ◌-◌, ◌<◌, ◌≤◌, List, [], ◌∷◌, ◌++◌, map, length, get_or, sym, refl, ap, ◌∙◌, subst, inl, inr, append_assoc, arith, length-append}
-use Rattle.std.proofs.lemmas.List.{map-append, get_or_at}
+use Rattle.std.proofs.Common.{◌≡◌, ℕ, ◌+◌, ◌-◌, ◌<◌, ◌≤◌, List, [], ◌∷◌, ◌++◌, map, length, get_or, sym, refl, ap, ◌∙◌, subst, inl, inr, append_assoc, arith, length-append}
+use Rattle.std.specs.List.{All}
+use Rattle.std.proofs.lemmas.List.{map-append, get_or_at, take_at, drop_at}
+use Rattle.std.proofs.lemmas.List.Elements.{All-take, All-drop, All-head, All-from_get_or}
 use Rattle.symbols.specs.Rule.{IsName}
 use Rattle.codes.specs.Tree.{Tree, empty, leaf, then, either, maybe, many, some, postfix, leaves}
 use Rattle.codes.specs.Checked.{above, CodesOf}
@@ -59,43 +61,23 @@ tree_of cs ns e c =
       sym (relabel_leaves f e ∙ ap (map f) c.places ∙ places_all [] [] ns 0 refl),
     )
 
--- each element satisfies P
-abbrev pub Each : {A : Type 0} → (A → Type 0) → List A → Type 0
-Each P [] = Unit {0}
-Each P (x ∷ xs) = P x × Each P xs
+all_left : {A : Type 0} (P : A → Type 0) (xs ys : List A) → All P (xs ++ ys) → All P xs
+all_left P xs ys h = rw (take_at xs ys (length xs) refl) at (All-take P (length xs) (xs ++ ys) h)
 
-each_from : {A : Type 0} (P : A → Type 0) (d : A) (xs : List A) → ((k : ℕ) → k < length xs → P (get_or xs k d)) → Each P xs
-each_from P d [] f = tt
-each_from P d (x ∷ xs) f = (f 0 (omega arith), each_from P d xs (λ k h. f (suc k) (omega arith)))
-
-each_left : {A : Type 0} (P : A → Type 0) (xs ys : List A) → Each P (xs ++ ys) → Each P xs
-each_left P [] ys h = tt
-each_left P (x ∷ xs) ys h = (h.0, each_left P xs ys h.1)
-
-each_right : {A : Type 0} (P : A → Type 0) (xs ys : List A) → Each P (xs ++ ys) → Each P ys
-each_right P [] ys h = h
-each_right P (x ∷ xs) ys h = each_right P xs ys h.1
-
-pub each_both : {A : Type 0} (P : A → Type 0) (xs ys : List A) → Each P xs → Each P ys → Each P (xs ++ ys)
-each_both P [] ys f g = g
-each_both P (x ∷ xs) ys f g = (f.0, each_both P xs ys f.1 g)
-
-pub each_at : {A : Type 0} (P : A → Type 0) (d : A) (xs : List A) → Each P xs → (k : ℕ) → k < length xs → P (get_or xs k d)
-each_at P d [] f k h = absurd (omega arith)
-each_at P d (x ∷ xs) f zero h = f.0
-each_at P d (x ∷ xs) f (suc k) h = each_at P d xs f.1 k (omega arith)
+all_right : {A : Type 0} (P : A → Type 0) (xs ys : List A) → All P (xs ++ ys) → All P ys
+all_right P xs ys h = rw (drop_at xs ys (length xs) refl) at (All-drop P (length xs) (xs ++ ys) h)
 
 abbrev pub Nonzero : ℕ → Type 0
 Nonzero c = c ≡ 0 → ⊥
 
-solid_from : (x : Tree (List ℕ)) → Each Nonzero (postfix x) → Solid x
-solid_from empty h = h.0 refl
+solid_from : (x : Tree (List ℕ)) → All Nonzero (postfix x) → Solid x
+solid_from empty h = All-head Nonzero 0 [] h refl
 solid_from (leaf n) h = tt
-solid_from (then l r) h = (solid_from l (each_left Nonzero (postfix l) (postfix r ++ (2 ∷ [])) h), solid_from r (each_left Nonzero (postfix r) (2 ∷ []) (each_right Nonzero (postfix l) (postfix r ++ (2 ∷ [])) h)))
-solid_from (either l r) h = (solid_from l (each_left Nonzero (postfix l) (postfix r ++ (3 ∷ [])) h), solid_from r (each_left Nonzero (postfix r) (3 ∷ []) (each_right Nonzero (postfix l) (postfix r ++ (3 ∷ [])) h)))
-solid_from (maybe e) h = solid_from e (each_left Nonzero (postfix e) (4 ∷ []) h)
-solid_from (many e) h = solid_from e (each_left Nonzero (postfix e) (5 ∷ []) h)
-solid_from (some e) h = solid_from e (each_left Nonzero (postfix e) (6 ∷ []) h)
+solid_from (then l r) h = (solid_from l (all_left Nonzero (postfix l) (postfix r ++ (2 ∷ [])) h), solid_from r (all_left Nonzero (postfix r) (2 ∷ []) (all_right Nonzero (postfix l) (postfix r ++ (2 ∷ [])) h)))
+solid_from (either l r) h = (solid_from l (all_left Nonzero (postfix l) (postfix r ++ (3 ∷ [])) h), solid_from r (all_left Nonzero (postfix r) (3 ∷ []) (all_right Nonzero (postfix l) (postfix r ++ (3 ∷ [])) h)))
+solid_from (maybe e) h = solid_from e (all_left Nonzero (postfix e) (4 ∷ []) h)
+solid_from (many e) h = solid_from e (all_left Nonzero (postfix e) (5 ∷ []) h)
+solid_from (some e) h = solid_from e (all_left Nonzero (postfix e) (6 ∷ []) h)
 
 one_code : (x : Tree (List ℕ)) → length (postfix x) ≤ 1 → Plain x
 one_code empty h = inl refl
@@ -108,16 +90,16 @@ one_code (some e) h = absurd (omega (arith, some_code e, length-append (postfix 
 
 pub plain_from : (x : Tree (List ℕ)) → NoneEmpty (postfix x) → Plain x
 plain_from x (inl h) = one_code x h
-plain_from x (inr h) = inr (solid_from x (each_from Nonzero 0 (postfix x) h))
+plain_from x (inr h) = inr (solid_from x (All-from_get_or Nonzero (postfix x) 0 h))
 
-named_from : (x : Tree (List ℕ)) → Solid x → Each IsName (leaves x) → Named x
+named_from : (x : Tree (List ℕ)) → Solid x → All IsName (leaves x) → Named x
 named_from empty s h = s
-named_from (leaf n) s h = h.0
-named_from (then l r) s h = (named_from l s.0 (each_left IsName (leaves l) (leaves r) h), named_from r s.1 (each_right IsName (leaves l) (leaves r) h))
-named_from (either l r) s h = (named_from l s.0 (each_left IsName (leaves l) (leaves r) h), named_from r s.1 (each_right IsName (leaves l) (leaves r) h))
+named_from (leaf n) s h = All-head IsName n [] h
+named_from (then l r) s h = (named_from l s.0 (all_left IsName (leaves l) (leaves r) h), named_from r s.1 (all_right IsName (leaves l) (leaves r) h))
+named_from (either l r) s h = (named_from l s.0 (all_left IsName (leaves l) (leaves r) h), named_from r s.1 (all_right IsName (leaves l) (leaves r) h))
 named_from (maybe e) s h = named_from e s h
 named_from (many e) s h = named_from e s h
 named_from (some e) s h = named_from e s h
 
 pub solid_named : (x : Tree (List ℕ)) → Solid x → ((k : ℕ) → k < length (leaves x) → IsName (get_or (leaves x) k [])) → Named x
-solid_named x s h = named_from x s (each_from IsName [] (leaves x) h)
+solid_named x s h = named_from x s (All-from_get_or IsName (leaves x) [] h)

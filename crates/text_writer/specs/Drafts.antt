@@ -1,31 +1,22 @@
 -- A text that grows from its end towards its beginning, and what is left to write of codes and names. Assumes nothing.
-use Rattle.std.specs.Prelude.{◌≡◌, ℕ, ◌+◌, ◌≤◌, Bool, true, false, List, [], ◌∷◌, ◌++◌, length, take, drop}
+use Rattle.std.specs.Prelude.{◌≡◌, ℕ, ◌+◌, ◌≤◌, Bool, true, false, List, [], ◌∷◌, ◌++◌, map, length}
+use Rattle.symbols.specs.NameRows.{row_bytes}
 use Rattle.codes.specs.Tree.{Tree, postfix, leaves}
 use Rattle.grammar.specs.Grammar.{sign}
 use Rattle.grammar.specs.declared.Chain.{Chain}
 use Rattle.grammar.specs.declared.Chain.TheVariants.{Choice, Seq}
-use Rattle.text_writer.specs.declared.draft.Draft.{Draft}
-use Rattle.text_writer.specs.declared.parts.Left.{Left}
+use Rattle.text_writer.specs.declared.parts.Rest.{Rest}
 use Rattle.text_writer.specs.declared.place.Place.{Place}
 use Rattle.text_writer.specs.declared.place.Place.TheVariants.{Alone, Commas, Bars}
 use Rattle.text_writer.specs.Written.{grouped, then_opens, either_opens, text}
 
--- the text so far
-abbrev pub content : Draft → List ℕ
-content d = drop d.from d.bytes
+-- there is room for s before the text d
+abbrev pub Room : List ℕ → List ℕ → Type 0
+Room d s = length s + length d ≤ 5890
 
--- there is room for s before the text
-pub record Room (d : Draft) (s : List ℕ) : Type 0 where
-  pub enough : length s ≤ d.from
-  pub inside : d.from ≤ 5890
-
--- s was put before the text
-pub record Grown (d : Draft) (s : List ℕ) (e : Draft) : Type 0 where
-  pub from : e.from + length s ≡ d.from
-  pub text : content e ≡ s ++ content d
-
-abbrev pub Put : Draft → List ℕ → Draft → Type 0
-Put d s e = Room d s → Grown d s e
+-- s was put before the text d, which is e now, where there was room
+abbrev pub Put : List ℕ → List ℕ → List ℕ → Type 0
+Put d s e = Room d s → e ≡ s ++ d
 
 -- a byte, if it is wanted
 abbrev pub ended : Bool → ℕ → List ℕ
@@ -33,20 +24,17 @@ ended true b = b ∷ []
 ended false b = []
 
 -- the codes u and the names us are left to write
-pub record Before (cs : List ℕ) (ns : List (List ℕ)) (l : Left) (u : List ℕ) (us : List (List ℕ)) : Type 0 where
-  pub codes : take l.codes cs ≡ u
-  pub count : l.codes ≡ length u
-  pub names : take l.names ns ≡ us
-  pub found : l.names ≡ length us
+pub record Left (r : Rest) (u : List ℕ) (us : List (List ℕ)) : Type 0 where
+  pub codes : r.codes.now ≡ u
+  pub names : map row_bytes r.names.now ≡ us
 
--- where the last of what is left are the codes w and the names ms, they were written as s
-abbrev pub Said : List ℕ → List (List ℕ) → Left → List ℕ → List (List ℕ) → List ℕ → Draft → Left → Draft → Type 0
-Said cs ns l w ms s d r e =
-    (u : List ℕ) (us : List (List ℕ)) → Before cs ns l (u ++ w) (us ++ ms) → Room d s → Before cs ns r u us × Grown d s e
+-- where the last of what is left in r are the codes w and the names ms, they were written as s before the text d, and q is left
+abbrev pub Said : Rest → List ℕ → List (List ℕ) → List ℕ → List ℕ → Rest → List ℕ → Type 0
+Said r w ms s d q e = (u : List ℕ) (us : List (List ℕ)) → Left r (u ++ w) (us ++ ms) → Room d s → Left q u us × (e ≡ s ++ d)
 
 -- where the last of what is left is the tree x, it was written at its place
-abbrev pub SaidTree : List ℕ → List (List ℕ) → Left → Place → Draft → Left → Draft → Type 0
-SaidTree cs ns l p d r e = (x : Tree (List ℕ)) → Said cs ns l (postfix x) (leaves x) (text p x) d r e
+abbrev pub SaidTree : Rest → Place → List ℕ → Rest → List ℕ → Type 0
+SaidTree r p d q e = (x : Tree (List ℕ)) → Said r (postfix x) (leaves x) (text p x) d q e
 
 -- whether a chain is a group of its own at a place; the place of its first part; and its text
 abbrev pub chain_opens : Chain → Place → Bool

@@ -1,5 +1,5 @@
 // What the writer refuses.
-ghost use Rattle.std.specs.Prelude.{◌≡◌, ℕ, ◌<◌, ◌≤◌, [], map, length, MatchResult};
+ghost use Rattle.std.specs.Prelude.{◌≡◌, ℕ, ◌<◌, ◌≤◌, [], map, length, MatchOption, MatchResult};
 ghost use Rattle.faults.specs.declared.Fault.TheVariants.{TooDeep, Unwritable};
 ghost use Rattle.symbols.specs.NameRows.{row_bytes};
 ghost use Rattle.text_writer.specs.Levels.{passed, Shallow, FirstDeep};
@@ -11,31 +11,28 @@ use symbols::name_rows::NameRow;
 /// The most levels of brackets that a text may have.
 const MOST_LEVELS: usize = 16;
 
-/// Refuses code 0 among other codes.
+/// Refuses what stands at the index, if there is one.
+fn refuse_at(index: Option<usize>) -> Result<(), Fault>
+    ensures { MatchOption index (result ≡ Ok tt) (λ i. result ≡ Err (Fault.Unwritable i)) }
+{
+    index.map_or(Ok(()), |index| Err(Fault::Unwritable { index }))
+}
+
+/// Refuses code 0, which is that of `Code::Empty`, among other codes.
 pub(crate) fn check_parts(codes: &[u8]) -> Result<(), Fault>
     ensures { MatchResult result (λ _. NoneEmpty codes.now) (λ f. ((i : ℕ) × (f ≡ Unwritable i) × FirstEmpty codes.now i)) }
 {
     if codes.len() <= 1 {
         return Ok(());
     }
-    for i in 0..codes.len() {
-        if codes[i] == 0 {
-            return Err(Fault::Unwritable { index: i });
-        }
-    }
-    Ok(())
+    refuse_at(codes.iter().position(|code| *code == 0))
 }
 
 /// Refuses a row that is no name.
 pub(crate) fn check_names(names: &[NameRow]) -> Result<(), Fault>
     ensures { MatchResult result (λ _. AllNames (map row_bytes names.now)) (λ f. ((i : ℕ) × (f ≡ Unwritable i) × FirstNoName (map row_bytes names.now) i)) }
 {
-    for i in 0..names.len() {
-        if !names[i].is_name() {
-            return Err(Fault::Unwritable { index: i });
-        }
-    }
-    Ok(())
+    refuse_at(names.iter().position(|name| !name.is_name()))
 }
 
 /// How many brackets are open behind a byte.
@@ -55,11 +52,11 @@ pub(crate) fn check_levels(text: &[u8]) -> Result<(), Fault>
     ensures { MatchResult result (λ _. Shallow text.now) (λ f. ((k : ℕ) × (f ≡ TooDeep k) × FirstDeep text.now k)) }
 {
     let mut depth = 0;
-    for i in 0..text.len() {
-        if text[i] == b'(' && depth >= MOST_LEVELS {
-            return Err(Fault::TooDeep { at: i });
+    for (at, byte) in text.iter().enumerate() {
+        if *byte == b'(' && depth >= MOST_LEVELS {
+            return Err(Fault::TooDeep { at });
         }
-        depth = pass(depth, text[i]);
+        depth = pass(depth, *byte);
     }
     Ok(())
 }

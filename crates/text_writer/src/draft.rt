@@ -1,45 +1,61 @@
 // A text that grows from its end towards its beginning.
-ghost use Rattle.std.specs.Prelude.{◌≡◌, [], ◌∷◌};
-ghost use Rattle.text_writer.specs.Drafts.{content, Put, ended};
+ghost use Rattle.std.specs.Prelude.{◌≡◌, ℕ, ◌≤◌, List, [], ◌∷◌, drop};
+ghost use Rattle.text_writer.specs.Drafts.{Put, ended};
+
+use std::marker::Model;
 
 /// The most bytes that a text can have: 32 for each of 64 names, three for each of 1,280 codes, and the outer brackets.
-pub(crate) const CELLS: usize = 5890;
+const MOST_BYTES: usize = 5890;
 
 /// The text so far: the bytes from `from` on.
+// No vector of the kit grows at its front, and the text has to be one slice.
 #[derive(Drop)]
 pub struct Draft {
-    pub bytes: [u8; 5890],
-    pub from: usize,
+    bytes: [u8; MOST_BYTES],
+    from: usize,
+}
+
+impl Model for Draft {
+    ghost Value = { List ℕ };
+
+    ghost view = { λ d. drop d.from d.bytes };
+
+    ghost invariant = { λ d. d.from ≤ 5890 };
 }
 
 impl Draft {
     /// No text yet.
-    pub(crate) fn blank() -> Draft
-        ensures text { content result ≡ [] }
-        ensures from { result.from ≡ 5890 }
+    pub(crate) fn new() -> Draft
+        ensures { result ≡ [] }
     {
         Draft {
-            bytes: [0; CELLS],
-            from: CELLS,
+            bytes: [0; MOST_BYTES],
+            from: MOST_BYTES,
         }
     }
 
     /// The text so far.
     pub(crate) fn text(&self) -> &[u8]
-        ensures { result.now ≡ content self.now }
+        ensures { result.now ≡ self.now }
     {
-        &self.bytes[self.from.min(CELLS)..]
+        &self.bytes[self.from..]
+    }
+
+    /// Puts bytes before the text, where there is room.
+    pub(crate) fn push_all(&mut self, bytes: &[u8])
+        ensures { Put self.old bytes.now self.new }
+    {
+        if let Some(from) = self.from.checked_sub(bytes.len()) {
+            self.bytes[from..self.from].copy_from_slice(bytes);
+            self.from = from;
+        }
     }
 
     /// Puts a byte before the text, where there is room.
     pub(crate) fn push(&mut self, byte: u8)
         ensures { Put self.old (byte ∷ []) self.new }
     {
-        if self.from == 0 || self.from > CELLS {
-            return;
-        }
-        self.bytes[self.from - 1] = byte;
-        self.from -= 1;
+        self.push_all(&[byte]);
     }
 
     /// Puts a byte before the text if it is wanted.
@@ -49,17 +65,5 @@ impl Draft {
         if wanted {
             self.push(byte);
         }
-    }
-
-    /// Puts bytes before the text, where there is room.
-    pub(crate) fn push_all(&mut self, bytes: &[u8])
-        ensures { Put self.old bytes.now self.new }
-    {
-        if self.from > CELLS || bytes.len() > self.from {
-            return;
-        }
-        let from = self.from - bytes.len();
-        self.bytes[from..self.from].copy_from_slice(bytes);
-        self.from = from;
     }
 }

@@ -5,7 +5,6 @@ ghost use Rattle.std.specs.Prelude.{◌≡◌, ℕ, not, ◌&&◌, List, map, le
 ghost use Rattle.codes.specs.Tree.{Tree};
 ghost use Rattle.symbols.specs.NameRows.{row_bytes};
 ghost use Rattle.text_writer.specs.Written.{written};
-ghost use Rattle.text_writer.specs.Drafts.{content};
 ghost use Rattle.text_writer.specs.Writes.{Sayable, Copied, Writes, OneAnswer};
 
 mod checks;
@@ -17,7 +16,7 @@ use checks::{check_levels, check_names, check_parts};
 use codes::check;
 use draft::Draft;
 use faults::{Fault, Layer};
-use parts::{Left, write_part};
+use parts::{Rest, write_part};
 use place::Place;
 use symbols::name_rows::NameRow;
 
@@ -25,27 +24,21 @@ use symbols::name_rows::NameRow;
 fn is_bare(codes: &[u8]) -> bool
     ensures { result ≡ (nat_le (length codes.now) 2 && not (slice_index codes.now 0 == 0)) }
 {
-    if codes.len() > 2 {
-        return false;
+    // 0 is the code of `Code::Empty`.
+    match codes {
+        [first] | [first, _] => *first != 0,
+        _ => false,
     }
-    if codes.len() == 0 {
-        return false;
-    }
-    codes[0] != 0
 }
 
 /// The text of codes and names that a text can say.
 fn draft_of(codes: &[u8], names: &[NameRow]) -> Draft
-    ensures { (x : Tree (List ℕ)) → Sayable codes.now (map row_bytes names.now) x → content result ≡ written x }
+    ensures { (x : Tree (List ℕ)) → Sayable codes.now (map row_bytes names.now) x → result ≡ written x }
 {
-    let mut draft = Draft::blank();
+    let mut draft = Draft::new();
     let bare = is_bare(codes);
     draft.push_if(bare, b')');
-    let all = Left {
-        codes: codes.len(),
-        names: names.len(),
-    };
-    let _none = write_part(codes, names, all, Place::Alone, &mut draft);
+    write_part(Rest { codes, names }, Place::Alone, &mut draft);
     draft.push_if(bare, b'(');
     draft
 }
@@ -60,7 +53,7 @@ fn copy_text(text: &[u8], out: &mut [u8]) -> Result<usize, Fault>
             cells: text.len(),
         });
     }
-    out[0..text.len()].copy_from_slice(text);
+    out[..text.len()].copy_from_slice(text);
     Ok(text.len())
 }
 
@@ -78,8 +71,6 @@ pub fn write(codes: &[u8], names: &[NameRow], out: &mut [u8]) -> Result<usize, F
 }
 
 /// Codes and names have one answer, and one content of the list afterwards.
-pub fn one_answer() -> u8
+pub fn one_answer()
     ensures { OneAnswer }
-{
-    0
-}
+{}

@@ -1,16 +1,12 @@
 -- Runs of bytes, and the token at an offset. Assumes nothing.
-use Rattle.std.proofs.Common.{◌≡◌, ℕ, ◌+◌, ◌-◌, ◌<◌, ◌≤◌, Bool, true, false, cond, eqb, List, [], ◌∷◌, length, get_or, take, drop, sym, refl, ap, ◌∙◌, subst, ⊎_elim, arith, length-drop, length-take-le, le-ltb, lt-ltb}
+use Rattle.std.proofs.Common.{◌≡◌, ℕ, ◌+◌, ◌-◌, ◌<◌, ◌≤◌, Bool, true, false, cond, List, [], ◌∷◌, length, get_or, take, drop, sym, refl, ap, ◌∙◌, subst, ⊎_elim, arith, length-drop, length-take-le, drop-cons, add-one, le-ltb, lt-ltb}
+use Rattle.std.specs.List.{prefix_len}
 use Rattle.std.proofs.lemmas.List.{get_or_past}
 use Rattle.std.proofs.str.Laws.{order}
 use Rattle.symbols.specs.Rule.{inner}
 use Rattle.tokens.specs.Bytes.{class_of}
-use Rattle.tokens.specs.Tokens.{tok, by_class, pcdata_at, begins, While, stop, on, Longest, Named, slice, end}
+use Rattle.tokens.specs.Tokens.{tok, by_class, pcdata_at, While, stop, on, Longest, Named, slice, end}
 use Rattle.tokens.specs.declared.types.Class.{Class}
-
--- one more byte at the end of a run
-pub run_more : {p : ℕ → Bool} {t : List ℕ} {i j : ℕ} → While p t i j → p (get_or t j 0) ≡ true → While p t i (j + 1)
-run_more stop e = on e stop
-run_more (on f r) e = on f (run_more r e)
 
 -- a test is not both passed and failed
 pub not_both : {b : Bool} → b ≡ true → b ≡ false → ⊥
@@ -49,17 +45,6 @@ pub class_tok : (t : List ℕ) (i : ℕ) (k : Class) → i < length t → k ≡ 
     by_class k (pcdata_at t i) ≡ tok t i
 class_tok t i k h e = ap (λ (v : Class). by_class v (pcdata_at t i)) e ∙ sym (tok_in t i h)
 
--- what begins with a word is as long
-pub begins_long : (w s : List ℕ) → begins w s ≡ true → length w ≤ length s
-begins_long [] s e = omega arith
-begins_long (x ∷ w) [] e = absurd (let z : ◌≡◌ {A = ℕ} 0 1 = cc in omega arith)
-begins_long (x ∷ w) (b ∷ s) e = go (λ h. begins_long w s h) (eqb b x) e
-  where
-    go : (begins w s ≡ true → length w ≤ length s) → (v : Bool) → cond v (begins w s) false ≡ true →
-        length (x ∷ w) ≤ length (b ∷ s)
-    go f true h = omega (arith, f h)
-    go f false h = absurd (let z : ◌≡◌ {A = ℕ} 0 1 = cc in omega arith)
-
 pub named : (t : List ℕ) (i j : ℕ) → i < j → j ≤ length t → Longest inner t (i + 1) j →
     Named t i (take (j - i) (drop i t))
 named t i j a b r =
@@ -71,3 +56,23 @@ named t i j a b r =
       some = omega arith;
       inside = omega arith;
     }
+
+-- from i on, a run is as long as the test is passed by the bytes there
+pub longest_run : (p : ℕ → Bool) (t : List ℕ) (i : ℕ) → p 0 ≡ false → Longest p t i (i + prefix_len p (drop i t))
+longest_run p t i z = go (drop i t) i refl
+  where
+    here : (i : ℕ) → p (get_or t i 0) ≡ false → Longest p t i (i + 0)
+    here i e = let n : i + 0 ≡ i = omega arith in rw n (record { run = stop; ends = e })
+
+    go : (s : List ℕ) (i : ℕ) → drop i t ≡ s → Longest p t i (i + prefix_len p s)
+    go [] i e = here i (ap p (get_or_past t i 0 (omega (arith, length-drop i t, ap length e))) ∙ z)
+    go (x ∷ s) i e =
+        let h : i < length t = omega (arith, length-drop i t, ap length e) in
+        let d = drop-cons t i 0 h in
+        let k : get_or t i 0 ≡ x = cc in
+        let r : drop (i + 1) t ≡ s = rw add-one cc in
+        by (p x) refl k (go s (i + 1) r)
+      where
+        by : (v : Bool) → p x ≡ v → get_or t i 0 ≡ x → Longest p t (i + 1) (i + 1 + prefix_len p s) → Longest p t i (i + cond v (1 + prefix_len p s) 0)
+        by true f k l = let n : i + (1 + prefix_len p s) ≡ i + 1 + prefix_len p s = omega arith in rw n (record { run = on (ap p k ∙ f) l.run; ends = l.ends })
+        by false f k l = here i (ap p k ∙ f)

@@ -1,5 +1,6 @@
 -- The tokens of a content model. Assumes nothing.
 use Rattle.std.specs.Prelude.{◌≡◌, ℕ, ◌+◌, ◌<◌, ◌≤◌, Bool, true, false, cond, List, [], ◌∷◌, length, drop, codes, ◌==◌, nat_lt, slice_index, slice_range}
+use Rattle.std.specs.Fn.{Shared}
 use Rattle.symbols.specs.Rule.{inner}
 use Rattle.tokens.specs.Bytes.{class_of, white}
 use Rattle.tokens.specs.declared.types.Class.{Class}
@@ -77,6 +78,10 @@ pub data While (p : ℕ → Bool) (t : List ℕ) : ℕ → ℕ → Type 0 where
 pub record Longest (p : ℕ → Bool) (t : List ℕ) (i j : ℕ) : Type 0 where
   pub run : While p t i j
   pub ends : p (slice_index t j) ≡ false
+
+-- a call of f at a byte answers the test p of that byte
+abbrev pub Tells : {F : Type 0} → Shared F (ℕ × Unit {0}) Bool → (ℕ → Bool) → F → Type 0
+Tells g p f = (b : ℕ) (r : Bool) → g.post f (b, tt) r → r ≡ p b
 
 -- the bytes from i up to j, without j
 abbrev pub slice : List ℕ → ℕ → ℕ → List ℕ

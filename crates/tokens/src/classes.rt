@@ -4,31 +4,13 @@ ghost use Rattle.symbols.specs.Rule.{inner};
 ghost use Rattle.tokens.specs.Bytes.{class_of, white};
 
 use super::types::Class;
+use Class::{
+    Bar as B, Close as C, Comma as K, Hash as H, NameOnly as N, NameStart as A, Open as O,
+    Other as X, Plus as P, Query as Q, Star as S, White as W,
+};
 
-const A: Class = Class::NameStart;
-
-const N: Class = Class::NameOnly;
-
-const W: Class = Class::White;
-
-const O: Class = Class::Open;
-
-const C: Class = Class::Close;
-
-const B: Class = Class::Bar;
-
-const K: Class = Class::Comma;
-
-const Q: Class = Class::Query;
-
-const S: Class = Class::Star;
-
-const P: Class = Class::Plus;
-
-const H: Class = Class::Hash;
-
-const X: Class = Class::Other;
-
+// The rules of this project ask for one constant table with an entry for each byte. It stands behind a reference, since the
+// check of `class_of` takes many times as long for a table by value.
 #[rattlefmt::skip]
 const CLASS: &[Class; 256] = &[
     X, X, X, X, X, X, X, X, X, W, W, X, X, W, X, X,
@@ -60,18 +42,12 @@ pub fn class_of(b: u8) -> Class
 pub fn is_white(b: u8) -> bool
     ensures { result ≡ white b }
 {
-    match class_of(b) {
-        Class::White => true,
-        _ => false,
-    }
+    class_of(b) == Class::White
 }
 
 /// Whether a byte may stand in a name behind its first byte.
 pub fn is_inner(b: u8) -> bool
     ensures { result ≡ inner b }
 {
-    match class_of(b) {
-        Class::NameStart | Class::NameOnly => true,
-        _ => false,
-    }
+    matches!(class_of(b), Class::NameStart | Class::NameOnly)
 }

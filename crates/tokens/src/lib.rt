@@ -1,10 +1,8 @@
 // The tokens of a content model: a name as long as it goes on, `#PCDATA`, a sign, any other byte by itself, or the end.
 #![tactic(auto)]
 
-ghost use Rattle.std.specs.Prelude.{◌≡◌, ◌≤◌, length, codes};
-ghost use Rattle.symbols.specs.Rule.{inner};
-ghost use Rattle.tokens.specs.Bytes.{white};
-ghost use Rattle.tokens.specs.Tokens.{token_of, tok, Longest, Held, Peeked, begins, OnePiece};
+ghost use Rattle.std.specs.Prelude.{◌≡◌, ℕ, ◌≤◌, Bool, false, length, codes};
+ghost use Rattle.tokens.specs.Tokens.{token_of, tok, Tells, Longest, Held, Peeked, begins, OnePiece};
 
 pub mod classes;
 pub mod types;
@@ -12,62 +10,41 @@ pub mod types;
 use classes::{class_of, is_inner, is_white};
 use types::{Class, Piece, Token};
 
-/// Where the white space from `at` on ends.
-fn skip(text: &[u8], at: usize) -> usize
+/// Where the run of bytes that belong, from `at` on, ends.
+fn run_end<F: Fn(u8) -> bool>(text: &[u8], at: usize, belongs: F) -> usize
+    requires { F.IsAlwaysCallable belongs }
     ensures on { at ≤ result }
     ensures inside { at ≤ length text.now → result ≤ length text.now }
-    ensures longest { Longest white text.now at result }
+    ensures longest { (p : ℕ → Bool) → Tells F.Fn p belongs → p 0 ≡ false → Longest p text.now at result }
 {
-    let mut to = at;
-    while to < text.len() && is_white(text[to]) {
-        to += 1;
-    }
-    to
-}
-
-/// Where the bytes of a name behind its first, which stand from `at` on, end.
-fn name_end(text: &[u8], at: usize) -> usize
-    ensures on { at ≤ result }
-    ensures inside { at ≤ length text.now → result ≤ length text.now }
-    ensures longest { Longest inner text.now at result }
-{
-    let mut to = at;
-    while to < text.len() && is_inner(text[to]) {
-        to += 1;
-    }
-    to
+    let rest = &text[at.min(text.len())..];
+    at + rest.iter().take_while(|b| belongs(**b)).count()
 }
 
 /// Whether the bytes begin with `#PCDATA`.
 fn is_pcdata(bytes: &[u8]) -> bool
     ensures { result ≡ begins (codes "#PCDATA") bytes.now }
 {
-    match bytes {
-        [b'#', b'P', b'C', b'D', b'A', b'T', b'A', ..] => true,
-        _ => false,
-    }
+    bytes.starts_with(b"#PCDATA")
 }
 
 /// The token that begins right at `at`; white space there is a token that can't follow any.
+#[tactic(auto, using(crate::proofs::Runs::tok_in, crate::proofs::Runs::tok_past))]
 pub fn token_at(text: &[u8], at: usize) -> Token<'_>
     ensures is { token_of result ≡ tok text.now at }
     ensures held { Held text.now at result }
 {
-    if at >= text.len() {
+    let Some(first) = text.get(at) else {
         return Token::End;
-    }
-    match class_of(text[at]) {
+    };
+    match class_of(*first) {
         Class::NameStart => {
-            let end = name_end(text, at + 1);
+            let end = run_end(text, at + 1, is_inner);
             Token::Name(&text[at..end])
         }
-        Class::Hash => {
-            if is_pcdata(&text[at..]) {
-                Token::Pcdata
-            } else {
-                Token::Stray
-            }
-        }
+        Class::Hash if is_pcdata(&text[at..]) => Token::Pcdata,
+        Class::Hash => Token::Stray,
+        Class::White | Class::NameOnly => Token::Stray,
         Class::Open => Token::Open,
         Class::Close => Token::Close,
         Class::Bar => Token::Bar,
@@ -75,8 +52,6 @@ pub fn token_at(text: &[u8], at: usize) -> Token<'_>
         Class::Query => Token::Query,
         Class::Star => Token::Star,
         Class::Plus => Token::Plus,
-        Class::White => Token::Stray,
-        Class::NameOnly => Token::Stray,
         Class::Other => Token::Other,
     }
 }
@@ -85,14 +60,12 @@ pub fn token_at(text: &[u8], at: usize) -> Token<'_>
 pub fn peek(text: &[u8], from: usize) -> Piece<'_>
     ensures { Peeked text.now from result }
 {
-    let at = skip(text, from);
+    let at = run_end(text, from, is_white);
     let token = token_at(text, at);
     Piece { at, token }
 }
 
 /// The first token from an offset on is one: its own offset, its kind and its bytes.
-pub fn one_piece() -> u8
+pub fn one_piece()
     ensures { OnePiece }
-{
-    0
-}
+{}

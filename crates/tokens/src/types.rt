@@ -1,7 +1,7 @@
 // Classes of bytes, and tokens.
 
 /// The class of a byte.
-#[derive(Clone, Copy, PartialEq, Drop)]
+#[derive(Clone, Copy, Debug, PartialEq, Eq, Drop)]
 pub enum Class {
     /// May begin a name: a letter, `_` or `:`.
     NameStart,
@@ -30,7 +30,7 @@ pub enum Class {
 }
 
 /// A token. A name borrows its bytes from the text.
-#[derive(Clone, Copy)]
+#[derive(Clone, Copy, Debug, PartialEq, Eq)]
 pub enum Token<'a> {
     /// A name, as long as it goes on.
     Name(&'a [u8]),
@@ -59,7 +59,7 @@ pub enum Token<'a> {
 }
 
 /// A token with its offset in the text.
-#[derive(Clone, Copy)]
+#[derive(Clone, Copy, Debug, PartialEq, Eq)]
 pub struct Piece<'a> {
     /// The offset of the token's first byte, or the length of the text at its end.
     pub at: usize,

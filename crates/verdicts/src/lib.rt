@@ -6,22 +6,16 @@ ghost use Rattle.verdicts.specs.Theorems.{OneMeaning, OneVerdict, TextsAreFormed
 use symbols::Symbol;
 
 /// A text has one meaning: one model that is not ambiguous, or one fault.
-pub fn one_meaning() -> u8
+pub fn one_meaning()
     ensures { OneMeaning }
-{
-    0
-}
+{}
 
 /// The model of a text is well-formed, so that only ambiguity can be wrong with it.
-pub fn texts_are_formed() -> u8
+pub fn texts_are_formed()
     ensures { TextsAreFormed }
-{
-    0
-}
+{}
 
 /// Of two models that are well-formed, the first is included in the second, or there is one least word that shows that it is not.
-pub fn one_verdict<S: Symbol>() -> u8
+pub fn one_verdict<S: Symbol>()
     ensures { OneVerdict S.Symbol.same }
-{
-    0
-}
+{}

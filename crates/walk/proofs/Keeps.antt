@@ -179,7 +179,7 @@ only : (P : ℕ → Type 0) → P 0 → (i : ℕ) → i < 1 → P i
 only P z i a = let e : 0 ≡ i = omega arith in subst P e z
 
 -- the search begins
-pub begin : {G : LabelledGraph} (S : Sound G) (n : ℕ) (queue : List ℕ) → n ≡ G.nodes → G.nodes ≤ length queue → Walked G (set (replicate n 0) G.start start_link) (set queue 0 G.start) 0 1 1
+begin : {G : LabelledGraph} (S : Sound G) (n : ℕ) (queue : List ℕ) → n ≡ G.nodes → G.nodes ≤ length queue → Walked G (set (replicate n 0) G.start start_link) (set queue 0 G.start) 0 1 1
 begin {G = G} S n queue m r =
     let s = G.start in
     let zeros : List ℕ = replicate n 0 in
@@ -208,18 +208,14 @@ begin {G = G} S n queue m r =
       unwanted = λ i a. absurd (let b : ⊥ = omega arith in b);
     }
 
+-- the search begins once the start is entered
+pub begins : {G : LabelledGraph} (S : Sound G) (n : ℕ) {queue links' queue' : List ℕ} {tail' : ℕ} → n ≡ G.nodes → G.nodes ≤ length queue → Entered (replicate n 0) queue 0 G.start start_link links' queue' tail' → Walked G links' queue' 0 1 tail'
+begins S n m r (inl o) = rw (o.1, o.2, o.3) (begin S n _ m r)
+begins {G = G} S n m r (inr o) = absurd (o.0 (get_or_none n G.start))
+
 -- what `enter` does keeps it
 pub enters : {G : LabelledGraph} {links queue links' queue' : List ℕ} {h l tail tail' y : ℕ} (W : Walked G links queue h l tail) → h < tail → y < G.nodes → l < 128 → 0 < l → G.goes (get_or queue h 0) l ≡ Some y → Entered links queue tail y (link_of h l) links' queue' tail' → Walked G links' queue' h (l + 1) tail'
 enters W p q few named e (inl o) =
     rw (o.1, o.2, o.3) (push W p q few named e o.0)
 enters W p q few named e (inr o) =
     rw (o.1, o.2, o.3) (seen W p _ q e o.0)
-
-pub entered_ahead : {links queue links' queue' : List ℕ} {tail tail' : ℕ} (y v : ℕ) → Entered links queue tail y v links' queue' tail' → tail ≤ tail'
-entered_ahead y v (inl o) = omega (arith, o.3)
-entered_ahead y v (inr o) = omega (arith, o.3)
-
--- `enter` changes no place before the queue's end
-pub entered_keeps : {links queue links' queue' : List ℕ} {tail tail' h : ℕ} (y v : ℕ) → h < tail → Entered links queue tail y v links' queue' tail' → get_or queue h 0 ≡ get_or queue' h 0
-entered_keeps {queue = queue} {tail = tail} {h = h} y v p (inl o) = sym (ap (λ q. get_or q h 0) o.2 ∙ get_or-set_other queue tail h y 0 (λ b. omega arith))
-entered_keeps {queue = queue} {tail = tail} {h = h} y v p (inr o) = sym (ap (λ q. get_or q h 0) o.2)

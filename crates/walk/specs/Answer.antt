@@ -1,7 +1,5 @@
 -- What `least_word` answers. In each record `work` and `word` are the lists as lent, and `work'` and `word'` as given back.
-use Rattle.std.specs.Prelude.{◌≡◌, ℕ, ◌*◌, ◌<◌, ◌≤◌, List, ◌++◌, length, drop, Ok, Err, Result}
-use Rattle.walk.specs.declared.Outcome.{Outcome}
-use Rattle.walk.specs.declared.Outcome.TheVariants.{Absent, Found}
+use Rattle.std.specs.Prelude.{◌≡◌, ℕ, ◌*◌, ◌<◌, ◌≤◌, List, ◌++◌, length, drop, Some, None, Option, Ok, Err, Result}
 use Rattle.walk.specs.declared.Shortage.{Shortage}
 use Rattle.walk.specs.declared.Shortage.TheVariants.{Work, Word as WordCells}
 use Rattle.walk.specs.Order.{Word}
@@ -45,8 +43,8 @@ pub record LeastFound (G : LabelledGraph) (work word work' word' : List ℕ) (n 
   pub written : word' ≡ found ++ drop n word
 
 -- what each answer says
-abbrev pub Answer : LabelledGraph → List ℕ → List ℕ → List ℕ → List ℕ → Result Outcome Shortage → Type 0
+abbrev pub Answer : LabelledGraph → List ℕ → List ℕ → List ℕ → List ℕ → Result (Option ℕ) Shortage → Type 0
 Answer G work word work' word' (Err (Work cells)) = WorkRefused G work word work' word' cells
 Answer G work word work' word' (Err (WordCells cells)) = WordRefused G work word work' word' cells
-Answer G work word work' word' (Ok Absent) = NoneWanted G work word work' word'
-Answer G work word work' word' (Ok (Found n)) = LeastFound G work word work' word' n
+Answer G work word work' word' (Ok None) = NoneWanted G work word work' word'
+Answer G work word work' word' (Ok (Some n)) = LeastFound G work word work' word' n

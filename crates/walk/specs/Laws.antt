@@ -1,6 +1,5 @@
 -- What follows from the definitions alone.
-use Rattle.std.specs.Prelude.{◌≡◌, ℕ, List, Result}
-use Rattle.walk.specs.declared.Outcome.{Outcome}
+use Rattle.std.specs.Prelude.{◌≡◌, ℕ, List, Option, Result}
 use Rattle.walk.specs.declared.Shortage.{Shortage}
 use Rattle.walk.specs.Graph.{LabelledGraph}
 use Rattle.walk.specs.Entry.{On, InOrder}
@@ -9,7 +8,7 @@ use Rattle.walk.specs.Answer.{Answer}
 -- for a graph and two lists there is one answer, and one word list that is given back with it
 abbrev pub OneAnswer : Type 0
 OneAnswer =
-    (G : LabelledGraph) (work word work₁ word₁ work₂ word₂ : List ℕ) (a b : Result Outcome Shortage)
+    (G : LabelledGraph) (work word work₁ word₁ work₂ word₂ : List ℕ) (a b : Result (Option ℕ) Shortage)
     → Answer G work word work₁ word₁ a → Answer G work word work₂ word₂ b → (a ≡ b) × (word₁ ≡ word₂)
 
 -- there is one list of the same nodes in the order of their least words

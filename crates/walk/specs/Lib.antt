@@ -4,3 +4,4 @@ pub mod Entry
 pub mod Walk
 pub mod Answer
 pub mod Laws
+pub mod Searches

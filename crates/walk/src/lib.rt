@@ -38,15 +38,6 @@ pub trait Graph {
         ensures { result ≡ (meaning self.now).wanted node };
 }
 
-/// What a search that was not refused found.
-#[derive(Clone, Copy, PartialEq, Eq, Debug)]
-pub enum Outcome {
-    /// No word leads to a wanted node.
-    Absent,
-    /// The least word that does has so many labels.
-    Found { length: usize },
-}
-
 /// Which lent list is too short, and how many cells it needs.
 #[derive(Clone, Copy, PartialEq, Eq, Debug)]
 pub enum Shortage {
@@ -56,164 +47,189 @@ pub enum Shortage {
     Word { cells: usize },
 }
 
-/// The start's link: it has no parent, and no label is that large.
-const START: u32 = 127;
+/// The link of a node: the queue's place of the node from which it was entered, and the label of the edge.
+#[derive(Clone, Copy)]
+struct Link(u32);
 
-/// The link of a node that an edge of this label enters from the parent's place in the queue.
-fn link(parent: usize, label: u32) -> u32
-    requires { (parent < 2 ^ 25) × (label < 128) }
-    ensures { result ≡ link_of parent label }
-{
-    parent as u32 * 128 + label
-}
+impl Link {
+    /// The start's link: it has no parent, and no label is that large.
+    const START: Link = Link(127);
 
-/// The parent's place in the queue.
-fn parent(cell: u32) -> usize
-    ensures { result ≡ parent_of cell }
-{
-    (cell / 128) as usize
-}
+    /// The link of a node that an edge of this label enters from the parent's place in the queue.
+    fn new(parent: usize, label: u32) -> Link
+        requires { (parent < 2 ^ 25) × (label < 128) }
+        ensures { result.0 ≡ link_of parent label }
+    {
+        Link(parent as u32 * 128 + label)
+    }
 
-/// The label of the edge from the parent.
-fn label_of(cell: u32) -> u16
-    ensures { result ≡ label_of cell }
-{
-    (cell % 128) as u16
-}
+    /// The parent's place in the queue.
+    fn parent(self) -> usize
+        ensures { result ≡ parent_of self.0 }
+    {
+        (self.0 / 128) as usize
+    }
 
-/// Writes 0 into every cell.
-fn clear(cells: &mut [u32])
-    ensures { cells.new ≡ replicate (length cells.old) 0 }
-{
-    for c in cells.iter_mut() {
-        *c = 0;
+    /// The label of the edge from the parent.
+    fn label(self) -> u16
+        ensures { result ≡ label_of self.0 }
+    {
+        (self.0 % 128) as u16
     }
 }
 
-/// Gives `node` its link and the queue's next place, unless it was entered before; the queue's length after that.
-fn enter(links: &mut [u32], queue: &mut [u32], tail: usize, node: u32, cell: u32) -> usize
-    requires { (node < length links.old) × ((slice_index links.old node ≡ 0 → tail < length queue.old)) }
-    ensures { Entered links.old queue.old tail node cell links.new queue.new result }
-{
-    if links[node as usize] != 0 {
-        return tail;
-    }
-    links[node as usize] = cell;
-    queue[tail] = node;
-    tail + 1
-}
-
-/// Follows the edge of this label, if there is one, from the node at the queue's place `head`; the queue's length after that.
-fn follow<G: Graph>(
-    graph: &G,
-    links: &mut [u32],
-    queue: &mut [u32],
-    head: usize,
+/// A search of a graph, in the two halves of the lent work list.
+#[derive(Drop)]
+struct Search<'a, 'b, G> {
+    graph: &'a G,
+    /// The link of each node; 0 where the node is not entered yet.
+    links: &'b mut [u32],
+    /// The nodes that were entered, in their order, and room for the others.
+    queue: &'b mut [u32],
+    /// How many were entered.
     tail: usize,
-    label: u32,
-) -> usize
-    requires walked { Walked (G.Graph.meaning graph.now) links.old queue.old head label tail }
-    requires waiting { head < tail }
-    requires named { (1 ≤ label) × (label ≤ (G.Graph.meaning graph.now).labels) }
-    ensures walked { Walked (G.Graph.meaning graph.now) links.new queue.new head (label + 1) result }
-    ensures ahead { tail ≤ result }
-    ensures same { slice_index queue.old head ≡ slice_index queue.new head }
-{
-    match graph.step(queue[head], label) {
-        Some(node) => enter(links, queue, tail, node, link(head, label)),
-        None => tail,
+}
+
+impl<'a, 'b, G: Graph> Search<'a, 'b, G> {
+    ghost use Rattle.walk.specs.Searches.{Begun, Searching, TracedIn, SameLists};
+
+    /// The search that has entered the start.
+    fn new(graph: &'a G, links: &'b mut [u32], queue: &'b mut [u32]) -> Search<'a, 'b, G>
+        requires { (length links.old ≡ (G.Graph.meaning graph.now).nodes) × (length links.old ≤ length queue.old) }
+        ensures walked { Searching G.Graph.meaning result 0 1 }
+        ensures same { Begun graph.now links.entry queue.entry result }
+    {
+        links.fill(0);
+        let mut search = Search {
+            graph,
+            links,
+            queue,
+            tail: 0,
+        };
+        search.enter(graph.start(), Link::START);
+        search
     }
-}
 
-/// Follows each edge from the node at the queue's place `head`; the queue's length after that.
-fn expand<G: Graph>(
-    graph: &G,
-    links: &mut [u32],
-    queue: &mut [u32],
-    head: usize,
-    tail: usize,
-) -> usize
-    requires { (Walked (G.Graph.meaning graph.now) links.old queue.old head 1 tail) × (head < tail) }
-    ensures walked { Walked (G.Graph.meaning graph.now) links.new queue.new head ((G.Graph.meaning graph.now).labels + 1) result }
-    ensures ahead { tail ≤ result }
-    ensures same { slice_index queue.old head ≡ slice_index queue.new head }
-{
-    let last = graph.labels();
-    let mut end = tail;
-    for label in 1..last + 1 {
-        end = follow(graph, links, queue, head, end, label);
-    }
-    end
-}
-
-/// Whether the node at a place of the queue is wanted.
-fn is_wanted_at<G: Graph>(graph: &G, queue: &[u32], place: usize) -> bool
-    requires { place < length queue.now }
-    ensures { result ≡ (G.Graph.meaning graph.now).wanted (slice_index queue.now place) }
-{
-    graph.is_wanted(queue[place])
-}
-
-/// The queue's place of the first wanted node that the search takes.
-fn first_wanted<G: Graph>(graph: &G, links: &mut [u32], queue: &mut [u32]) -> Option<usize>
-    requires { (length links.old ≡ (G.Graph.meaning graph.now).nodes) × (length links.old ≤ length queue.old) }
-    ensures { FirstWanted (G.Graph.meaning graph.now) links.new queue.new result }
-{
-    clear(links);
-    let start = graph.start();
-    links[start as usize] = START;
-    queue[0] = start;
-    let mut head = 0;
-    let mut tail = 1;
-    while head < tail {
-        if is_wanted_at(graph, queue, head) {
-            return Some(head);
+    /// Gives `node` its link and the queue's next place, unless it was entered before.
+    fn enter(&mut self, node: u32, link: Link)
+        requires { (node < length self.old.links.now) × ((slice_index self.old.links.now node ≡ 0 → self.old.tail < length self.old.queue.now)) }
+        ensures entered { Entered self.old.links.now self.old.queue.now self.old.tail node link.0 self.new.links.now self.new.queue.now self.new.tail }
+        ensures same { SameLists self.old self.new }
+    {
+        let cell = &mut self.links[node as usize];
+        if *cell == 0 {
+            *cell = link.0;
+            self.queue[self.tail] = node;
+            self.tail += 1;
         }
-        tail = expand(graph, links, queue, head, tail);
-        head += 1;
     }
-    None
-}
 
-/// How many links lead from the queue's place `at` back to the start.
-fn depth(links: &[u32], queue: &[u32], at: usize) -> usize
-    requires { (w : Word) × Traced links.now queue.now at w }
-    ensures { (w : Word) → Traced links.now queue.now at w → result ≡ length w }
-{
-    let mut place = at;
-    let mut count = 0;
-    while place != 0 {
-        place = parent(links[queue[place] as usize]);
-        count += 1;
+    /// Follows the edge of this label, if there is one, from the node at the queue's place `head`.
+    fn follow(&mut self, head: usize, label: u32)
+        requires walked { Searching G.Graph.meaning self.old head label }
+        requires waiting { head < self.old.tail }
+        requires named { (1 ≤ label) × (label ≤ (G.Graph.meaning self.old.graph.now).labels) }
+        ensures walked { Searching G.Graph.meaning self.new head (label + 1) }
+        ensures ahead { self.old.tail ≤ self.new.tail }
+        ensures at_head { slice_index self.old.queue.now head ≡ slice_index self.new.queue.now head }
+        ensures same { SameLists self.old self.new }
+    {
+        if let Some(node) = self.graph.step(self.queue[head], label) {
+            self.enter(node, Link::new(head, label));
+        }
     }
-    count
-}
 
-/// Writes the word that leads to the node at the queue's place `at`, of `len` labels, from its end.
-fn spell(links: &[u32], queue: &[u32], at: usize, len: usize, word: &mut [u16])
-    requires traced { (w : Word) × Traced links.now queue.now at w }
-    requires long { (w : Word) → Traced links.now queue.now at w → len ≡ length w }
-    requires room { len ≤ length word.old }
-    ensures { (w : Word) → Traced links.now queue.now at w → word.new ≡ w ++ drop len word.old }
-{
-    let mut place = at;
-    let mut left = len;
-    while place != 0 {
-        let cell = links[queue[place] as usize];
-        left -= 1;
-        word[left] = label_of(cell);
-        place = parent(cell);
+    /// Follows each edge from the node at the queue's place `head`.
+    fn expand(&mut self, head: usize)
+        requires { Searching G.Graph.meaning self.old head 1 × (head < self.old.tail) }
+        ensures walked { Searching G.Graph.meaning self.new head ((G.Graph.meaning self.new.graph.now).labels + 1) }
+        ensures ahead { self.old.tail ≤ self.new.tail }
+        ensures at_head { slice_index self.old.queue.now head ≡ slice_index self.new.queue.now head }
+        ensures same { SameLists self.old self.new }
+    {
+        let last = self.graph.labels();
+        // Labels are numbers from 1 on: no list is read at one.
+        for label in 1..=last {
+            self.follow(head, label);
+        }
+    }
+
+    /// Whether the node at a place of the queue is wanted.
+    fn is_wanted_at(&self, place: usize) -> bool
+        requires { place < length self.now.queue.now }
+        ensures { result ≡ (G.Graph.meaning self.now.graph.now).wanted (slice_index self.now.queue.now place) }
+    {
+        self.graph.is_wanted(self.queue[place])
+    }
+
+    /// The queue's place of the first wanted node that the search takes.
+    fn first_wanted(&mut self) -> Option<usize>
+        requires { Searching G.Graph.meaning self.old 0 1 }
+        ensures first { FirstWanted (G.Graph.meaning self.old.graph.now) self.new.links.now self.new.queue.now result }
+        ensures same { SameLists self.old self.new }
+    {
+        // The queue grows while its nodes are taken.
+        let mut head = 0;
+        while head < self.tail {
+            if self.is_wanted_at(head) {
+                return Some(head);
+            }
+            self.expand(head);
+            head += 1;
+        }
+        None
+    }
+
+    /// The link of the node at a place of the queue.
+    fn link(&self, place: usize) -> Link
+        requires { (place < length self.now.queue.now) × (slice_index self.now.queue.now place < length self.now.links.now) }
+        ensures { result.0 ≡ slice_index self.now.links.now (slice_index self.now.queue.now place) }
+    {
+        Link(self.links[self.queue[place] as usize])
+    }
+
+    /// How many links lead from the queue's place `at` back to the start.
+    fn depth(&self, at: usize) -> usize
+        requires { (w : Word) × TracedIn self.now at w }
+        ensures { (w : Word) → TracedIn self.now at w → result ≡ length w }
+    {
+        // The place follows the links, and not the order of a list.
+        let mut place = at;
+        let mut count = 0;
+        while place != 0 {
+            place = self.link(place).parent();
+            count += 1;
+        }
+        count
+    }
+
+    /// Writes the word that leads to the node at the queue's place `at`, of `len` labels, from its end.
+    fn spell(&self, at: usize, len: usize, word: &mut [u16])
+        requires traced { (w : Word) × TracedIn self.now at w }
+        requires long { (w : Word) → TracedIn self.now at w → len ≡ length w }
+        requires room { len ≤ length word.old }
+        ensures { (w : Word) → TracedIn self.now at w → word.new ≡ w ++ drop len word.old }
+    {
+        // As in `depth`, the place follows the links.
+        let mut place = at;
+        let mut left = len;
+        while place != 0 {
+            let link = self.link(place);
+            left -= 1;
+            word[left] = link.label();
+            place = link.parent();
+        }
     }
 }
 
 /// Writes the least word that leads from the start to a wanted node to the front of `word`.
 /// Its other cells stay as they are, and so do both lists where one is too short; the work list is looked at first.
-/// Otherwise what the work list holds is free.
+/// Otherwise what the work list holds is free, and the answer is how many labels the least word has, if there is one.
 pub fn least_word<G: Graph>(
     graph: &G,
     work: &mut [u32],
     word: &mut [u16],
-) -> Result<Outcome, Shortage>
+) -> Result<Option<usize>, Shortage>
     ensures { Answer (G.Graph.meaning graph.now) work.old word.old work.new word.new result }
 {
     let nodes = graph.nodes();
@@ -224,26 +240,21 @@ pub fn least_word<G: Graph>(
         return Err(Shortage::Word { cells: nodes });
     }
     let (links, queue) = work.split_at_mut(nodes);
-    match first_wanted(graph, links, queue) {
-        None => Ok(Outcome::Absent),
-        Some(at) => {
-            let length = depth(links, queue, at);
-            spell(links, queue, at, length, word);
-            Ok(Outcome::Found { length })
-        }
-    }
+    let mut search = Search::new(graph, links, queue);
+    let Some(at) = search.first_wanted() else {
+        return Ok(None);
+    };
+    let length = search.depth(at);
+    search.spell(at, length, word);
+    Ok(Some(length))
 }
 
 /// A theorem: for a graph and two lists there is one answer, and one word list that is given back with it.
-pub fn one_answer() -> u8
+pub fn one_answer()
     ensures { OneAnswer }
-{
-    0
-}
+{}
 
 /// A theorem: there is one list of the same nodes in the order of their least words.
-pub fn one_order() -> u8
+pub fn one_order()
     ensures { OneOrder }
-{
-    0
-}
+{}

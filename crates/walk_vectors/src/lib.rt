@@ -35,23 +35,20 @@ impl Graph for Table {
     }
 
     fn step(&self, node: u32, label: u32) -> Option<u32> {
-        if node < NODES && 0 < label && label < 4 {
-            let to = self.edges[node as usize][label as usize - 1];
-            if to < NODES { Some(to) } else { None }
-        } else {
-            None
-        }
+        let row = self.edges.get(node as usize)?;
+        let to = *row.get(label.checked_sub(1)? as usize)?;
+        (to < NODES).then_some(to)
     }
 
     fn is_wanted(&self, node: u32) -> bool {
-        node < NODES && self.wanted[node as usize]
+        self.wanted.get(node as usize) == Some(&true)
     }
 }
 
 #[cfg(test)]
 mod tests {
     use super::*;
-    use walk::{Outcome, Shortage, least_word};
+    use walk::{Shortage, least_word};
 
     // No edge.
     const NO: u32 = 9;
@@ -65,34 +62,29 @@ mod tests {
         [NO, NO, NO],
     ];
 
+    // A search for the wanted nodes, over lists of so many cells with 7 in each: its answer, and both lists after it.
+    fn search<const WORK: usize, const WORD: usize>(
+        edges: [[u32; 3]; 5],
+        wanted: [bool; 5],
+    ) -> (Result<Option<usize>, Shortage>, [u32; WORK], [u16; WORD]) {
+        let mut work = [7; WORK];
+        let mut word = [7; WORD];
+        let answer = least_word(&Table { edges, wanted }, &mut work, &mut word);
+        (answer, work, word)
+    }
+
     #[test]
     fn wanted_start(rt: HostRuntime) {
-        let graph = Table {
-            edges: DIAMOND,
-            wanted: [true, true, true, true, true],
-        };
-        let mut work = [7; 10];
-        let mut word = [7; 5];
-        assert_eq!(rt;
-            least_word(&graph, &mut work, &mut word),
-            Ok(Outcome::Found { length: 0 })
-        );
+        let (answer, _, word) = search::<10, 5>(DIAMOND, [true; 5]);
+        assert_eq!(rt; answer, Ok(Some(0)));
         assert_eq!(rt; word, [7, 7, 7, 7, 7]);
     }
 
     // Both words have two labels, and 1 is less than 2 at the first difference.
     #[test]
     fn two_words_of_one_length(rt: HostRuntime) {
-        let graph = Table {
-            edges: DIAMOND,
-            wanted: [false, false, false, true, true],
-        };
-        let mut work = [7; 12];
-        let mut word = [7; 6];
-        assert_eq!(rt;
-            least_word(&graph, &mut work, &mut word),
-            Ok(Outcome::Found { length: 2 })
-        );
+        let (answer, _, word) = search::<12, 6>(DIAMOND, [false, false, false, true, true]);
+        assert_eq!(rt; answer, Ok(Some(2)));
         assert_eq!(rt; word, [1, 3, 7, 7, 7, 7]);
     }
 
@@ -106,16 +98,8 @@ mod tests {
             [NO, NO, NO],
             [NO, NO, NO],
         ];
-        let graph = Table {
-            edges,
-            wanted: [false, false, true, false, false],
-        };
-        let mut work = [7; 10];
-        let mut word = [7; 5];
-        assert_eq!(rt;
-            least_word(&graph, &mut work, &mut word),
-            Ok(Outcome::Found { length: 1 })
-        );
+        let (answer, _, word) = search::<10, 5>(edges, [false, false, true, false, false]);
+        assert_eq!(rt; answer, Ok(Some(1)));
         assert_eq!(rt; word, [3, 7, 7, 7, 7]);
     }
 
@@ -129,16 +113,8 @@ mod tests {
             [NO, NO, NO],
             [NO, NO, NO],
         ];
-        let graph = Table {
-            edges,
-            wanted: [false, false, false, true, false],
-        };
-        let mut work = [7; 10];
-        let mut word = [7; 5];
-        assert_eq!(rt;
-            least_word(&graph, &mut work, &mut word),
-            Ok(Outcome::Found { length: 3 })
-        );
+        let (answer, _, word) = search::<10, 5>(edges, [false, false, false, true, false]);
+        assert_eq!(rt; answer, Ok(Some(3)));
         assert_eq!(rt; word, [1, 2, 3, 7, 7]);
     }
 
@@ -152,32 +128,16 @@ mod tests {
             [NO, NO, NO],
             [0, NO, NO],
         ];
-        let graph = Table {
-            edges,
-            wanted: [false, false, false, false, true],
-        };
-        let mut work = [7; 10];
-        let mut word = [7; 5];
-        assert_eq!(rt;
-            least_word(&graph, &mut work, &mut word),
-            Ok(Outcome::Absent)
-        );
+        let (answer, _, word) = search::<10, 5>(edges, [false, false, false, false, true]);
+        assert_eq!(rt; answer, Ok(None));
         assert_eq!(rt; word, [7, 7, 7, 7, 7]);
     }
 
     // Two cells are needed for each of the five nodes.
     #[test]
     fn work_one_cell_short(rt: HostRuntime) {
-        let graph = Table {
-            edges: DIAMOND,
-            wanted: [true, true, true, true, true],
-        };
-        let mut work = [7; 9];
-        let mut word = [7; 4];
-        assert_eq!(rt;
-            least_word(&graph, &mut work, &mut word),
-            Err(Shortage::Work { cells: 10 })
-        );
+        let (answer, work, word) = search::<9, 4>(DIAMOND, [true; 5]);
+        assert_eq!(rt; answer, Err(Shortage::Work { cells: 10 }));
         assert_eq!(rt; work, [7, 7, 7, 7, 7, 7, 7, 7, 7]);
         assert_eq!(rt; word, [7, 7, 7, 7]);
     }
@@ -185,16 +145,8 @@ mod tests {
     // One cell is needed for each of the five nodes.
     #[test]
     fn word_one_cell_short(rt: HostRuntime) {
-        let graph = Table {
-            edges: DIAMOND,
-            wanted: [true, true, true, true, true],
-        };
-        let mut work = [7; 10];
-        let mut word = [7; 4];
-        assert_eq!(rt;
-            least_word(&graph, &mut work, &mut word),
-            Err(Shortage::Word { cells: 5 })
-        );
+        let (answer, work, word) = search::<10, 4>(DIAMOND, [true; 5]);
+        assert_eq!(rt; answer, Err(Shortage::Word { cells: 5 }));
         assert_eq!(rt; work, [7, 7, 7, 7, 7, 7, 7, 7, 7, 7]);
         assert_eq!(rt; word, [7, 7, 7, 7]);
     }

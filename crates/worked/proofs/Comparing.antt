@@ -1,5 +1,5 @@
 -- The comparisons and the layers of the worked cases, for every reader.
-use Rattle.std.proofs.Common.{◌≡◌, ℕ, zero, suc, ◌+◌, ◌*◌, ◌≤◌, Bool, true, false, cond, not, ◌⊎◌, List, [], ◌∷◌, ◌++◌, length, drop, Some, Ok, Err, Result, sym, refl, ap, ◌∙◌, subst, inl, inr, arith}
+use Rattle.std.proofs.Common.{◌≡◌, ℕ, zero, suc, ◌+◌, ◌*◌, ◌≤◌, Bool, true, false, cond, not, ◌⊎◌, List, [], ◌∷◌, ◌++◌, length, drop, Some, Ok, Err, Result, sym, refl, ap, ◌∙◌, subst, inl, inr, arith, None, Option}
 use Rattle.std.proofs.lemmas.Bool.{both_ways, false≢true}
 use Rattle.symbols.specs.Kinds.{KindLaws}
 use Rattle.faults.specs.declared.Fault.{Fault}
@@ -18,8 +18,6 @@ use Rattle.tables.proofs.Laws.{skip_sound}
 use Rattle.tables.proofs.Limits.{limited_sound}
 use Rattle.tables.proofs.Piles.{skip_rel, limit_rel}
 use Rattle.walk.specs.Order.{NotAfter, Smaller, here, later}
-use Rattle.product.specs.declared.Compared.{Compared}
-use Rattle.product.specs.declared.Compared.TheVariants.{Included, Missed}
 use Rattle.product.specs.Compares.{pairs, LeastAstray, CompareSays, little_work, included, missed}
 use Rattle.product.proofs.Astray.{marked_within}
 use Rattle.product.proofs.Answered.{one}
@@ -76,14 +74,14 @@ three_word w (u, v, e, p, q) = e ∙ ap (λ l. l ++ v) (two_word u p) ∙ ap (λ
 
 module _ {S : Type 0} (same : S → S → Bool) {foreign : S → Bool} (laws : KindLaws same foreign) where
   -- what a comparison says is its one answer
-  answers : (t : Table S) (m : Model S) → Formed m → (work : ℕ) (word : List ℕ) (r : Result Compared Fault) (word' : List ℕ) → CompareSays same t m work word r word' → Answers same t m work word r word'
+  answers : (t : Table S) (m : Model S) → Formed m → (work : ℕ) (word : List ℕ) (r : Result (Option ℕ) Fault) (word' : List ℕ) → CompareSays same t m work word r word' → Answers same t m work word r word'
   answers t m F work word r word' d = record { says = d; only = λ q word'' e. one same laws t m F work word word'' word' q r e d }
 
   includes : (t : Table S) (m : Model S) → Formed m → ((s : List S) → Word same m s → Takes t s) → IsIncluded same t m
-  includes t m F f work word h k = answers t m F work word (Ok Included) word (included h k f)
+  includes t m F f work word h k = answers t m F work word (Ok None) word (included h k f)
 
   finds : (t : Table S) (m : Model S) (w : List ℕ) (v : List S) → Formed m → spelled m.symbols w ≡ v → LeastAstray t m w → Finds same t m w v
-  finds t m w v F e l = (e, λ work word h k. answers t m F work word (Ok (Missed (length w))) (w ++ drop (length w) word) (missed h k l))
+  finds t m w v F e l = (e, λ work word h k. answers t m F work word (Ok (Some (length w))) (w ++ drop (length w) word) (missed h k l))
 
   module _ (a b x : S) (D : Three same foreign a b x) where
     abbrev ab : List S
@@ -213,10 +211,10 @@ module _ {S : Type 0} (same : S → S → Bool) {foreign : S → Bool} (laws : K
     cells t e = ap (λ i. (1 + 1) * (i * (held i 2 + 1) + 1)) e
 
     work_28 : (t : Table S) (H : Sound t) (e : t.states ≡ 2) (J : TakesJust same (Some (a_star a)) t) (word : List ℕ) → 14 ≤ length word
-        → Answers same (limited 2 t) (a_star a) 28 word (Ok (Missed 3)) (1 ∷ 1 ∷ 1 ∷ drop 3 word)
+        → Answers same (limited 2 t) (a_star a) 28 word (Ok (Some 3)) (1 ∷ 1 ∷ 1 ∷ drop 3 word)
     work_28 t H e J word h =
         let c = cells t e in
-        answers (limited 2 t) (a_star a) (a_star_formed a b x) 28 word (Ok (Missed 3)) (1 ∷ 1 ∷ 1 ∷ drop 3 word)
+        answers (limited 2 t) (a_star a) (a_star_formed a b x) 28 word (Ok (Some 3)) (1 ∷ 1 ∷ 1 ∷ drop 3 word)
         (missed (omega (arith, c)) (omega (arith, c, h)) (a_a_a_least t H e J))
 
     work_27 : (t : Table S) → t.states ≡ 2 → (word : List ℕ) → Answers same (limited 2 t) (a_star a) 27 word (Err (ShortList Compare 28)) word

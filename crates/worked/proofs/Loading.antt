@@ -1,5 +1,5 @@
 -- The loads and the trial of the worked cases.
-use Rattle.std.proofs.Common.{◌≡◌, ℕ, zero, suc, ◌<◌, ◌≤◌, Bool, true, false, ◌⊎◌, List, [], ◌∷◌, ◌++◌, length, take, Some, None, Ok, Err, Result, sym, refl, ap, ◌∙◌, subst, inl, inr, ⊎_elim, arith}
+use Rattle.std.proofs.Common.{◌≡◌, ℕ, zero, suc, ◌<◌, ◌≤◌, Bool, true, false, ◌⊎◌, List, [], ◌∷◌, ◌++◌, length, take, Some, None, Ok, Err, Result, sym, refl, ap, ◌∙◌, subst, inl, inr, ⊎_elim, arith, is_some, Option}
 use Rattle.std.specs.List.{AllByRecursion}
 use Rattle.std.proofs.lemmas.Bool.{cases_lt, both_ways, false≢true}
 use Rattle.symbols.specs.Kinds.{KindLaws}
@@ -15,9 +15,8 @@ use Rattle.models.specs.declared.trials.Trial.{Trial}
 use Rattle.models.specs.declared.trials.Trial.TheVariants.{No}
 use Rattle.models.specs.Told.{Flawed, refused, ambiguous, TrialTold}
 use Rattle.models.proofs.Answered.{one_answer}
-use Rattle.shelf.specs.declared.records.Record.{Record}
-use Rattle.shelf.specs.declared.records.Record.TheVariants.{Empty, Taken}
-use Rattle.shelf.specs.Places.{room, record_at, is_taken, has, HoldsAt}
+use Rattle.shelf.specs.declared.records.Summary.{Summary}
+use Rattle.shelf.specs.Places.{room, record_at, has, HoldsAt}
 use Rattle.shelf.specs.Calls.{Done, Judges, LoadEnds, TrialEnds}
 use Rattle.shelf.proofs.Refining.{full_is, try_refines}
 use Rattle.worked.specs.Models.{star_a_star, loop_then_b, a_then_star, stars_star, either_star, stars, empty_model, only_a, a_x_b, a_b, a_star, a_maybe_b}
@@ -72,13 +71,13 @@ module _ {S : Type 0} (same : S → S → Bool) where
   pub ends_with : (m : Model S) (r : Done) → Judges same m r → LoadEndsWith same m r
   ends_with m r j = record {
     judged = j;
-    answers = λ s t p q e h l. one_judgement m r q j (ends_judged (has s p) (is_taken (record_at s.shelf p)) p m q e (full_is same (record_at s.shelf p) s.symbols s.numbers p None h) l.ends);
+    answers = λ s t p q e h l. one_judgement m r q j (ends_judged (has s p) (is_some (record_at s.shelf p)) p m q e (full_is same (record_at s.shelf p) s.symbols s.numbers p None h) l.ends);
   }
 
   -- a place that holds a model is there
-  held_there : (found : Record) (ss : List S) (ns : List ℕ) (p : ℕ) (m : Model S) → HoldsAt same found ss ns p (Some m) → room (length ss) (length ns) p ≡ true
-  held_there Empty ss ns p m h = absurd h
-  held_there (Taken t) ss ns p m h = h.0
+  held_there : (found : Option Summary) (ss : List S) (ns : List ℕ) (p : ℕ) (m : Model S) → HoldsAt same found ss ns p (Some m) → room (length ss) (length ns) p ≡ true
+  held_there None ss ns p m h = absurd h
+  held_there (Some t) ss ns p m h = h.0
 
   trial_one : (here : Bool) (p : ℕ) (m : Model S) (word : List S) (v : Trial) (q : Result Trial Fault) → TrialTold same m word v → here ≡ true → TrialEnds same here p (Some m) word q → q ≡ Ok v
   trial_one false p m word v q d e h = absurd (false≢true e)

@@ -1,5 +1,5 @@
 -- The worked cases, for three symbols a, b and x. Assumes nothing.
-use Rattle.std.specs.Prelude.{◌≡◌, ℕ, ◌*◌, ◌≤◌, Bool, true, false, List, [], ◌∷◌, ◌++◌, length, drop, Some, None, Ok, Err, Result}
+use Rattle.std.specs.Prelude.{◌≡◌, ℕ, ◌*◌, ◌≤◌, Bool, true, false, List, [], ◌∷◌, ◌++◌, length, drop, Some, None, Ok, Err, Result, Option}
 use Rattle.std.specs.List.{AllByRecursion}
 use Rattle.faults.specs.declared.Fault.{Fault}
 use Rattle.faults.specs.declared.Fault.TheVariants.{Ambiguous, ShortList}
@@ -13,8 +13,6 @@ use Rattle.models.specs.Told.{TrialTold}
 use Rattle.tables.specs.Tables.{Table, Sound}
 use Rattle.tables.specs.Words.{Takes}
 use Rattle.tables.specs.Layers.{skip_table, limited}
-use Rattle.product.specs.declared.Compared.{Compared}
-use Rattle.product.specs.declared.Compared.TheVariants.{Included, Missed}
 use Rattle.product.specs.Compares.{pairs, CompareSays}
 use Rattle.shelf.specs.Places.{State, has, Holds, table_of}
 use Rattle.shelf.specs.Calls.{Done, Judges, Loads, Tries, TakesJust}
@@ -42,19 +40,19 @@ module _ {S : Type 0} (same : S → S → Bool) where
 
   -- a comparison of the model m with a reader of table t, with so many cells of work and this word list, answers r and gives back word',
   -- and nothing else
-  pub record Answers (t : Table S) (m : Model S) (work : ℕ) (word : List ℕ) (r : Result Compared Fault) (word' : List ℕ) : Type 0 where
+  pub record Answers (t : Table S) (m : Model S) (work : ℕ) (word : List ℕ) (r : Result (Option ℕ) Fault) (word' : List ℕ) : Type 0 where
     pub says : CompareSays same t m work word r word'
-    pub only : (q : Result Compared Fault) (word'' : List ℕ) → CompareSays same t m work word q word'' → (q ≡ r) × (word'' ≡ word')
+    pub only : (q : Result (Option ℕ) Fault) (word'' : List ℕ) → CompareSays same t m work word q word'' → (q ≡ r) × (word'' ≡ word')
 
   -- where both lists are long enough, the answer is that the reader takes every word of the model
   abbrev pub IsIncluded : Table S → Model S → Type 0
-  IsIncluded t m = (work : ℕ) (word : List ℕ) → 2 * pairs t m ≤ work → pairs t m ≤ length word → Answers t m work word (Ok Included) word
+  IsIncluded t m = (work : ℕ) (word : List ℕ) → 2 * pairs t m ≤ work → pairs t m ≤ length word → Answers t m work word (Ok None) word
 
   -- where both lists are long enough, the answer is the word of the positions w, whose symbols are v
   abbrev pub Finds : Table S → Model S → List ℕ → List S → Type 0
   Finds t m w v =
       (spelled m.symbols w ≡ v)
-      × ((work : ℕ) (word : List ℕ) → 2 * pairs t m ≤ work → pairs t m ≤ length word → Answers t m work word (Ok (Missed (length w))) (w ++ drop (length w) word))
+      × ((work : ℕ) (word : List ℕ) → 2 * pairs t m ≤ work → pairs t m ≤ length word → Answers t m work word (Ok (Some (length w))) (w ++ drop (length w) word))
 
   -- P holds of the table of each reader that takes just the words of m
   abbrev pub EachReader : Model S → (Table S → Type 0) → Type 0
@@ -89,7 +87,7 @@ module _ {S : Type 0} (same : S → S → Bool) (foreign : S → Bool) (a b x : 
     pub a_x_b_in_skip : For (a_b a b) (λ t. IsIncluded same (skip_table foreign t) (a_x_b a x b))
     pub a_star_in_limit : ForTwo (a_star a) (λ t. Finds same (limited 2 t) (a_star a) (1 ∷ 1 ∷ 1 ∷ []) (a ∷ a ∷ a ∷ []))
     -- the same comparison with 28 cells of work, and with 27
-    pub enough_work : ForTwo (a_star a) (λ t. (word : List ℕ) → 14 ≤ length word → Answers same (limited 2 t) (a_star a) 28 word (Ok (Missed 3)) (1 ∷ 1 ∷ 1 ∷ drop 3 word))
+    pub enough_work : ForTwo (a_star a) (λ t. (word : List ℕ) → 14 ≤ length word → Answers same (limited 2 t) (a_star a) 28 word (Ok (Some 3)) (1 ∷ 1 ∷ 1 ∷ drop 3 word))
     pub little_work : ForTwo (a_star a) (λ t. (word : List ℕ) → Answers same (limited 2 t) (a_star a) 27 word (Err (ShortList Compare 28)) word)
     pub skip_over_limit : ForTwo (only_a a) (λ t. Takes (skip_table foreign (limited 1 t)) (a ∷ x ∷ x ∷ []))
     pub limit_over_skip : For (only_a a) (λ t. Takes (limited 1 (skip_table foreign t)) (a ∷ x ∷ x ∷ []) → ⊥)

@@ -1,6 +1,7 @@
 // What the writer refuses: codes, names, fault.
 use super::run::refuses;
 use faults::{Fault, Layer};
+use std::test::Fail;
 use symbols::name_rows::NameRow;
 use text_writer::write;
 
@@ -28,30 +29,31 @@ const REFUSALS: &[(&[u8], &[&[u8]], Fault)] = &[
 ];
 
 #[test]
-fn refusals(rt: HostRuntime) {
+fn refusals(rt: HostRuntime) -> Result<(), Fail> {
     for (codes, names, fault) in REFUSALS {
-        refuses(&rt, codes, names, 64, *fault);
+        refuses(&rt, codes, names, 64, *fault)?;
     }
+    Ok(())
 }
 
 // Eighteen marks on a name nest seventeen brackets; the seventeenth stands at offset 16. No room is needed to say so.
 #[test]
-fn seventeen_levels(rt: HostRuntime) {
+fn seventeen_levels(rt: HostRuntime) -> Result<(), Fail> {
     let mut codes = [4; 19];
     codes[0] = 1;
-    refuses(&rt, &codes, &[b"a"], 0, Fault::TooDeep { at: 16 });
+    refuses(&rt, &codes, &[b"a"], 0, Fault::TooDeep { at: 16 })
 }
 
 // `(a,b)` has five bytes, and `EMPTY` too.
 #[test]
-fn short_lists(rt: HostRuntime) {
+fn short_lists(rt: HostRuntime) -> Result<(), Fail> {
     let five = Fault::ShortList {
         layer: Layer::Text,
         cells: 5,
     };
-    refuses(&rt, &[1, 1, 2], &[b"a", b"b"], 4, five);
-    refuses(&rt, &[1, 1, 2], &[b"a", b"b"], 0, five);
-    refuses(&rt, &[0], &[], 4, five);
+    refuses(&rt, &[1, 1, 2], &[b"a", b"b"], 4, five)?;
+    refuses(&rt, &[1, 1, 2], &[b"a", b"b"], 0, five)?;
+    refuses(&rt, &[0], &[], 4, five)
 }
 
 // 65 symbols are too many, and are judged before 1,281 codes.
@@ -69,9 +71,9 @@ fn too_large(rt: HostRuntime) {
         limit: 1280,
     };
     assert_eq!(rt; write(&codes, &rows, &mut cells), Err(symbols));
-    assert_eq!(rt; write(&codes, &rows[0..64], &mut cells), Err(many));
+    assert_eq!(rt; write(&codes, &rows[..64], &mut cells), Err(many));
     assert_eq!(rt;
-        write(&codes[0..1280], &rows[0..64], &mut cells),
+        write(&codes[..1280], &rows[..64], &mut cells),
         Err(Fault::Malformed { at: 1280 })
     );
 }

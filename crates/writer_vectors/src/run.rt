@@ -1,50 +1,53 @@
 // One writing, held to what was worked out.
+use arrayvec::{ArrayVec, CapacityError};
 use faults::Fault;
 use std::process::Abort;
+use std::test::Fail;
 use symbols::name_rows::NameRow;
 use text_writer::write;
 
-// What each cell of the list holds before a writing: no text has it.
+// How many cells the list has, and what each holds before a writing: no text has it.
+const CELLS: usize = 64;
+
 const MARK: u8 = 9;
 
-// The rows of at most eight names.
-fn rows(names: &[&[u8]]) -> [NameRow; 8] {
-    let mut rows = [NameRow::of(b"-"); 8];
-    for i in 0..8 {
-        if i < names.len() {
-            rows[i] = NameRow::of(names[i]);
-        }
+// The rows of at most eight names. They are pushed, since `collect` takes a heap.
+fn rows(names: &[&[u8]]) -> Result<ArrayVec<NameRow, 8>, CapacityError<NameRow>> {
+    let mut rows = ArrayVec::new();
+    for name in names {
+        rows.try_push(NameRow::of(name))?;
     }
-    rows
+    Ok(rows)
 }
 
-// Whether the codes and names are written as the text, and no other cell is changed.
-pub fn writes(rt: &impl Abort, codes: &[u8], names: &[&[u8]], text: &[u8]) {
-    assert!(rt; names.len() <= 8);
-    assert!(rt; text.len() <= 64);
-    let rows = rows(names);
-    let mut cells = [MARK; 64];
-    assert_eq!(rt;
-        write(codes, &rows[0..names.len()], &mut cells),
-        Ok(text.len())
-    );
-    for i in 0..64 {
-        let byte = if i < text.len() { text[i] } else { MARK };
-        assert!(rt; cells[i] == byte);
-    }
+// The codes and names are written as the text, and no other cell is changed. Other test crates have such checks of their own, since one
+// crate for all would be proved for tests alone.
+pub fn writes(rt: &impl Abort, codes: &[u8], names: &[&[u8]], text: &[u8]) -> Result<(), Fail> {
+    let rows = rows(names)?;
+    let mut cells = [MARK; CELLS];
+    assert_eq!(rt; write(codes, rows.as_slice(), &mut cells), Ok(text.len()));
+    assert!(rt; text.len() <= CELLS);
+    let (written, others) = cells.split_at(text.len());
+    assert_eq!(rt; written, text);
+    assert!(rt; others.iter().all(|cell| *cell == MARK));
+    Ok(())
 }
 
-// Whether the codes and names are refused in a list of so many cells, and no cell is changed.
-pub fn refuses(rt: &impl Abort, codes: &[u8], names: &[&[u8]], room: usize, fault: Fault) {
-    assert!(rt; names.len() <= 8);
-    assert!(rt; room <= 64);
-    let rows = rows(names);
-    let mut cells = [MARK; 64];
+// The codes and names are refused in a list of so many cells, and no cell is changed.
+pub fn refuses(
+    rt: &impl Abort,
+    codes: &[u8],
+    names: &[&[u8]],
+    room: usize,
+    fault: Fault,
+) -> Result<(), Fail> {
+    assert!(rt; room <= CELLS);
+    let rows = rows(names)?;
+    let mut cells = [MARK; CELLS];
     assert_eq!(rt;
-        write(codes, &rows[0..names.len()], &mut cells[0..room]),
+        write(codes, rows.as_slice(), &mut cells[..room]),
         Err(fault)
     );
-    for i in 0..64 {
-        assert!(rt; cells[i] == MARK);
-    }
+    assert_eq!(rt; cells, [MARK; CELLS]);
+    Ok(())
 }

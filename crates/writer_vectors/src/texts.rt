@@ -1,5 +1,6 @@
 // What is written: codes, names, text.
 use super::run::writes;
+use std::test::Fail;
 
 #[rattlefmt::skip]
 const TEXTS: &[(&[u8], &[&[u8]], &[u8])] = &[
@@ -31,15 +32,16 @@ const TEXTS: &[(&[u8], &[&[u8]], &[u8])] = &[
 ];
 
 #[test]
-fn texts(rt: HostRuntime) {
+fn texts(rt: HostRuntime) -> Result<(), Fail> {
     for (codes, names, text) in TEXTS {
-        writes(&rt, codes, names, text);
+        writes(&rt, codes, names, text)?;
     }
+    Ok(())
 }
 
 // Sixteen levels: seventeen marks on a name.
 #[test]
-fn sixteen_levels(rt: HostRuntime) {
+fn sixteen_levels(rt: HostRuntime) -> Result<(), Fail> {
     let mut codes = [4; 18];
     codes[0] = 1;
     writes(
@@ -47,5 +49,5 @@ fn sixteen_levels(rt: HostRuntime) {
         &codes,
         &[b"a"],
         b"((((((((((((((((a?)?)?)?)?)?)?)?)?)?)?)?)?)?)?)?)?",
-    );
+    )
 }

@@ -1,4 +1,5 @@
 use Rattle.std.proofs.Common.{◌≡◌, length, ap, ◌∙◌, arith}
+use Rattle.faults.specs.declared.Fault.TheVariants.{Malformed}
 use Rattle.codes.specs.Build.{fault}
 use Rattle.codes.specs.Checked.{malformed}
 use Rattle.std.proofs.lemmas.Result.{err_from_is_err_and}
@@ -12,19 +13,23 @@ returns-in_err-within_limits c =
     let p = err_from_is_err_and c.from_residual.result c.from_residual.ensures.1 in
     rw (p.1, p.2) (limited_refused c.args.symbols c.args.codes.now _ c.in_err-within_limits.ensures)
 
-pub returns-in-None : goal.returns-in-None
-returns-in-None c =
+pub returns-in_err-tally : goal.returns-in_err-tally
+returns-in_err-tally c =
+    let p = err_from_is_err_and c.from_residual-in_err-tally.result c.from_residual-in_err-tally.ensures.1 in
+    let e = c.in_err-tally.ensures.ok_part in
+    let q : c.in_err-tally.field-0.0 ≡ Malformed c.loop-i.i = cc (rw e at c.in_err-tally.ensures.value) in
     let v = c.loop-i.invariant.0 in
-    let h = c.in-None.ensures.made v.0 v.1 in
-    malformed c.in_ok-within_limits.ensures.0 c.in_ok-within_limits.ensures.1
-    (fault_first (goes_not c.args.symbols c.args.codes.now c.loop-i.i c.loop-i.tally.used v.0 (omega arith) v.2 h))
+    let h = rw e at (c.advance.ensures.made v.0 v.1) in
+    rw (p.1, p.2, q) (malformed c.in_ok-within_limits.ensures.0 c.in_ok-within_limits.ensures.1
+    (fault_first (goes_not c.args.symbols c.args.codes.now c.loop-i.i c.loop-i.tally.used v.0 (omega arith) v.2 h)))
 
 pub loop-i-preserved : goal.loop-i-preserved
 loop-i-preserved c =
     let v = c.loop-i.invariant.0 in
-    let h = c.in-Some.ensures.made v.0 v.1 in
-    let b = c.in-Some.ensures.size in (
-      (h.0, h.2, goes_on c.args.symbols c.args.codes.now c.loop-i.i c.loop-i.tally.used v.0 h.0 c.in-Some.next.used (omega arith) v.2 h.1),
+    let e = c.in_ok-tally.ensures.ok_part in
+    let h = rw e at (c.advance.ensures.made v.0 v.1) in
+    let b = rw e at c.advance.ensures.size in (
+      (h.0, h.2, goes_on c.args.symbols c.args.codes.now c.loop-i.i c.loop-i.tally.used v.0 h.0 c.in_ok-tally.tally.used (omega arith) v.2 h.1),
       omega arith,
     )
 

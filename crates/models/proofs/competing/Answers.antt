@@ -1,4 +1,4 @@
-use Rattle.std.proofs.Common.{◌≡◌, ◌-◌, length, arith}
+use Rattle.std.proofs.Common.{length}
 use Rattle.std.proofs.lemmas.Result.{err_from_is_err_and}
 use Rattle.language.specs.Meaning.{given}
 use Rattle.models.proofs.Judged.{pair_told}
@@ -14,6 +14,5 @@ returns g c =
     let h = c.in_ok-tables.ensures in
     let m = given c.args.codes.now c.args.symbols.now in
     let n = length c.args.symbols.now in
-    let k : n - 0 ≡ n = omega arith in
     let t = c.in_ok-tables.tables in
-    pair_told g.S.Symbol.same m t.sets t.rows (n - 0) k h.0 h.1 h.2 g.S.Symbol.laws c.least_pair.result c.least_pair.ensures
+    pair_told g.S.Symbol.same m t.sets t.rows h.0 h.1 h.2 g.S.Symbol.laws c.least_pair.result c.least_pair.ensures

@@ -1,4 +1,4 @@
-use Rattle.std.proofs.Common.{◌≡◌, ◌-◌, refl, arith}
+use Rattle.std.proofs.Common.{refl}
 use Rattle.std.proofs.lemmas.Result.{err_from_is_err_and}
 use Rattle.models.proofs.Written.{made}
 use Rattle.models.proofs.sets.Goals as goal
@@ -12,5 +12,4 @@ pub returns : goal.returns
 returns c =
     let h = c.in_ok-tables.ensures in
     let n = c.args.symbols in
-    let k : n - 0 ≡ n = omega arith in
-    (h.0, made c.in_ok-tables.tables.sets n c.in_ok-tables.tables.rows _ c.args.followers.now c.keep.new.followers (n - 0) k h.1 h.2 c.keep.ensures)
+    (h.0, made c.in_ok-tables.tables.sets n c.in_ok-tables.tables.rows _ c.args.followers.now c.keep.new.followers h.1 h.2 c.keep.ensures)

@@ -3,7 +3,7 @@ use Rattle.std.proofs.lemmas.List.{at_drop_all}
 use Rattle.std.proofs.lemmas.Bool.Decides.{Decides-at}
 use Rattle.tables.specs.Tables.{ends_from, takes}
 use Rattle.tables.proofs.Leading.{takes_decides}
-use Rattle.tables.proofs.Words.{step_some, step_none}
+use Rattle.tables.proofs.Words.{step_none}
 use Rattle.readers.proofs.takes.Goals as goal
 
 pub returns-in-None : goal.returns-in-None
@@ -13,11 +13,6 @@ returns-in-None g c =
     Decides-at _ (takes t w)
     (sym (step_none t w c.loop-symbol.symbol-index c.loop-symbol.state _ c.loop-symbol-test.true c.symbol-item.is c.in-None.ensures) ∙ c.loop-symbol.invariant)
     (takes_decides t w)
-
-pub loop-symbol-preserved : goal.loop-symbol-preserved
-loop-symbol-preserved g c =
-    let t = g.R.Reader.table c.args.reader.now in
-    sym (step_some t c.args.word.now c.loop-symbol.symbol-index c.loop-symbol.state c.in-Some.next _ c.loop-symbol-test.true c.symbol-item.is c.in-Some.ensures) ∙ c.loop-symbol.invariant
 
 pub returns : goal.returns
 returns g c =

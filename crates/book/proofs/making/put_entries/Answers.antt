@@ -3,11 +3,11 @@ use Rattle.std.proofs.lemmas.List.{length-take}
 use Rattle.book.specs.Books.{two_bytes, entries_from}
 use Rattle.book.specs.Makings.{contents}
 use Rattle.book.proofs.Laid.{length-entries, length-book}
-use Rattle.book.proofs.Written.{put_put, put_same, content, entries_more, length-contents, length_together_more, together_most, contents_all}
+use Rattle.book.proofs.Written.{writes_writes, writes_same, content, entries_more, length-contents, length_together_more, together_most}
 use Rattle.book.proofs.making.put_entries.Goals as goal
 
-pub put_entry-end-requires : goal.put_entry-end-requires
-put_entry-end-requires c =
+pub put_entry-requires : goal.put_entry-requires
+put_entry-requires c =
     let bodies = c.args.bodies.now in
     let i = c.loop-body.body-index in
     let n = length-contents bodies in
@@ -17,7 +17,7 @@ put_entry-end-requires c =
     let there = length-entries (1 + 4 * length bodies) (take i (contents bodies)) in
     let first = length-take i (contents bodies) in
     record {
-      room = omega (arith, c.requires.room, c.loop-body.invariant.0.ends, c.loop-body.invariant.0.kept);
+      room = omega (arith, c.requires.room, c.loop-body.invariant.0.put.ends, c.loop-body.invariant.0.put.kept);
       offset = omega (arith, c.requires.short, c.loop-body.invariant.1);
       size = omega (arith, c.requires.short);
     }
@@ -39,13 +39,8 @@ loop-body-preserved c =
     let before = entries_from from (take i (contents bodies)) in
     let body = content bodies i c.loop-body-test.true in
     let more = length_together_more bodies i c.loop-body-test.true in (
-      put_same c.args.out.now c.put_entry-end.new.out c.args.at c.put_entry-end.result _ _
+      writes_same c.args.pen.now c.put_entry.new.pen _ _
           (ap (λ (n : ℕ). before ++ (two_bytes n ++ two_bytes (length body))) c.loop-body.invariant.1 ∙ sym (entries_more bodies i c.loop-body-test.true from))
-          (put_put c.args.out.now c.loop-body.out c.put_entry-end.new.out c.args.at c.loop-body.end c.put_entry-end.result before (two_bytes c.loop-body.offset ++ two_bytes (length body)) c.loop-body.invariant.0 c.put_entry-end.ensures),
+          (writes_writes c.args.pen.now c.loop-body.pen c.put_entry.new.pen before (two_bytes c.loop-body.offset ++ two_bytes (length body)) c.loop-body.invariant.0 c.put_entry.ensures),
       omega (arith, c.loop-body.invariant.1),
     )
-
-pub returns : goal.returns
-returns c =
-    let bodies = c.args.bodies.now in
-    put_same c.args.out.now c.loop-body.out c.args.at c.loop-body.end _ _ (ap (entries_from (1 + 4 * length bodies)) (contents_all bodies c.loop-body.body-index c.loop-body-test.false)) c.loop-body.invariant.0

@@ -1,5 +1,4 @@
-use Rattle.std.proofs.Common.{◌≡◌, ℕ, ◌-◌, length, sym, ap, ◌∙◌, arith}
-use Rattle.codes.specs.Build.{build}
+use Rattle.std.proofs.Common.{◌≡◌, length, ◌∙◌}
 use Rattle.std.proofs.lemmas.Result.{err_from_is_err_and}
 use Rattle.codes.specs.Checked.{malformed}
 use Rattle.codes.proofs.Answered.{limited_refused}
@@ -13,27 +12,25 @@ returns-in_err-within_limits c =
     let p = err_from_is_err_and c.from_residual.result c.from_residual.ensures.1 in
     rw (p.1, p.2) (limited_refused c.args.symbols c.args.codes.now _ c.in_err-within_limits.ensures)
 
-pub evaluate_codes-requires : goal.evaluate_codes-requires
-evaluate_codes-requires c =
-    let k : c.args.symbols - 0 ≡ c.args.symbols = omega arith in
-    let l = zeros_length (c.args.symbols - 0) c.args.symbols k c.in_ok-within_limits.ensures.0 in
-    (c.in_ok-within_limits.ensures.1, (omega (arith, c.in_ok-within_limits.ensures.0), λ x. zeros 64 (c.args.symbols - 0) x))
+pub evaluate-requires-clause-zero : goal.evaluate-requires-clause-zero
+evaluate-requires-clause-zero c x = zeros 64 c.args.symbols x
 
-pub returns-in-Ok : goal.returns-in-Ok
-returns-in-Ok c =
+pub returns-in_err-sets : goal.returns-in_err-sets
+returns-in_err-sets c =
     let n = c.args.symbols in
-    let h = c.in-Ok.ensures in
-    let k : n - 0 ≡ n = omega arith in
-    let l = zeros_length (n - 0) n k c.in_ok-within_limits.ensures.0 in
-    let b = sym (ap (λ (j : ℕ). build j c.args.codes.now) l) ∙ h.1 in
-    let rs = c.evaluate_codes.new.rows in
-    let even : length rs ≡ n = c.evaluate_codes.auto.rows ∙ l in
-    let f = front_sets n (tree_of n c.args.codes.now) c.in-Ok.sets rs _ even (built_sets n c.args.codes.now h.0 c.in-Ok.sets rs b even h.2 h.3) in
+    let p = err_from_is_err_and c.from_residual-in_err-sets.result c.from_residual-in_err-sets.ensures.1 in
+    let h = c.in_err-sets.ensures in
+    let l = zeros_length n c.in_ok-within_limits.ensures.0 in
+    rw (p.1, p.2, h.1)
+    (malformed c.in_ok-within_limits.ensures.0 c.in_ok-within_limits.ensures.1 (fault_first (rw l at h.2)))
+
+pub returns : goal.returns
+returns c =
+    let n = c.args.symbols in
+    let h = c.in_ok-sets.ensures in
+    let l = zeros_length n c.in_ok-within_limits.ensures.0 in
+    let b = rw l at h.1 in
+    let rs = c.evaluate.new.rows in
+    let even : length rs ≡ n = c.evaluate.auto.rows ∙ l in
+    let f = front_sets n (tree_of n c.args.codes.now) c.in_ok-sets.sets rs _ even (built_sets n c.args.codes.now h.0 c.in_ok-sets.sets rs b even h.2 h.3) in
     (record { few = c.in_ok-within_limits.ensures.0; short = c.in_ok-within_limits.ensures.1; tree = h.0; codes = build_codes b }, f.0, f.1)
-
-pub returns-in-Err : goal.returns-in-Err
-returns-in-Err c =
-    let n = c.args.symbols in
-    let k : n - 0 ≡ n = omega arith in
-    let l = zeros_length (n - 0) n k c.in_ok-within_limits.ensures.0 in
-    malformed c.in_ok-within_limits.ensures.0 c.in_ok-within_limits.ensures.1 (fault_first (sym (ap (λ (j : ℕ). build j c.args.codes.now) l) ∙ c.in-Err.ensures))

@@ -1,42 +1,49 @@
-use Rattle.std.proofs.Common.{◌≡◌, ℕ, ◌+◌, ◌-◌, ◌*◌, length, take, drop, sym, ap, ◌∙◌, arith}
+use Rattle.std.proofs.Common.{◌≡◌, ℕ, ◌+◌, ◌-◌, ◌*◌, ◌≤◌, ◌++◌, length, take, drop, sym, ap, ◌∙◌, arith}
+use Rattle.std.proofs.lemmas.Grind.{common_steps}
 use Rattle.std.proofs.lemmas.List.{take_rest, length-drop}
-use Rattle.book.specs.Entries.{Holds, length_in, body_in}
-use Rattle.book.proofs.Laid.{entry_says, book_no_body, book_body}
+use Rattle.book.specs.Books.{two_bytes}
+use Rattle.book.specs.Entries.{length_in, body_in}
+use Rattle.book.proofs.Laid.{entry_says, book_held, book_body}
 use Rattle.book.proofs.reading.Book.body.Goals as goal
 
-pub returns-then-at-bytes : goal.returns-then-at-bytes
-returns-then-at-bytes c =
-    let bytes = c.args.self.now.bytes.now in
-    let k = c.args.k in
-    let n : Holds bytes k → ⊥ = λ h. omega (arith, h.1, c.if-at-bytes.true) in
-    record { given = n; book = λ bodies b. book_no_body bytes bodies b k n }
+pub slice_bounds-first_entry-count : goal.slice_bounds-first_entry-count
+slice_bounds-first_entry-count c =
+    let held = book_held c.args.self.now.bytes.now c.args.self.now.whole c.args.k (omega (arith, c.count.ensures.value)) in
+    omega (arith, held.1)
 
-pub returns-in_default : goal.returns-in_default
-returns-in_default c =
-    let bytes = c.args.self.now.bytes.now in
-    let k = c.args.k in
-    let n : Holds bytes k → ⊥ = λ h. omega (arith, h.1, c.in_default.ensures, ap length (take_rest bytes (1 + 4 * k)), length-drop (1 + 4 * k) bytes) in
-    record { given = n; book = λ bodies b. book_no_body bytes bodies b k n }
+pub slice_bounds-first_entry-start : goal.slice_bounds-first_entry-start
+slice_bounds-first_entry-start c =
+    let held = book_held c.args.self.now.bytes.now c.args.self.now.whole c.args.k (omega (arith, c.count.ensures.value)) in
+    omega (arith, held.1)
 
-pub returns-then-end-bytes : goal.returns-then-end-bytes
-returns-then-end-bytes c =
+pub unwrap-requires : goal.unwrap-requires
+unwrap-requires c =
+    let bytes = c.args.self.now.bytes.now in
+    let at = 1 + 4 * c.args.k in
+    let held = book_held bytes c.args.self.now.whole c.args.k (omega (arith, c.count.ensures.value)) in
+    let there : 4 ≤ length (take (length bytes - at) (drop at bytes)) = omega (arith, held.1, ap length (take_rest bytes at), length-drop at bytes) in
+    grind (arith, common_steps)
+
+pub slice_bounds-result-end : goal.slice_bounds-result-end
+slice_bounds-result-end c =
     let bytes = c.args.self.now.bytes.now in
     let k = c.args.k in
-    let entry = c.in-Some.entry in
-    let says = entry_says bytes k entry.offset entry.size c.in-Some.field-0-1.now (sym (take_rest bytes (1 + 4 * k)) ∙ c.in-Some.ensures.0) in
-    let n : Holds bytes k → ⊥ = λ h. omega (arith, h.2, says.places, says.sizes, c.if-end-bytes.true) in
-    record { given = n; book = λ bodies b. book_no_body bytes bodies b k n }
+    let entry = c.unwrap.result.0 in
+    let held = book_held bytes c.args.self.now.whole k (omega (arith, c.count.ensures.value)) in
+    let e : take (length bytes - (1 + 4 * k)) (drop (1 + 4 * k) bytes) ≡ two_bytes entry.offset ++ (two_bytes entry.size ++ c.unwrap.result.1.now) = grind (arith, common_steps) in
+    let says = entry_says bytes k entry.offset entry.size c.unwrap.result.1.now (sym (take_rest bytes (1 + 4 * k)) ∙ e) in
+    omega (arith, held.2, says.places, says.sizes)
 
 pub returns : goal.returns
 returns c =
     let bytes = c.args.self.now.bytes.now in
     let k = c.args.k in
-    let entry = c.in-Some.entry in
-    let says = entry_says bytes k entry.offset entry.size c.in-Some.field-0-1.now (sym (take_rest bytes (1 + 4 * k)) ∙ c.in-Some.ensures.0) in
-    let low = c.if-k-count.false in
-    let h : Holds bytes k = (omega (arith, low, c.count.ensures.value), says.there, omega (arith, says.places, says.sizes, c.if-end-bytes.false)) in
+    let entry = c.unwrap.result.0 in
+    let held = book_held bytes c.args.self.now.whole k (omega (arith, c.count.ensures.value)) in
+    let e : take (length bytes - (1 + 4 * k)) (drop (1 + 4 * k) bytes) ≡ two_bytes entry.offset ++ (two_bytes entry.size ++ c.unwrap.result.1.now) = grind (arith, common_steps) in
+    let says = entry_says bytes k entry.offset entry.size c.unwrap.result.1.now (sym (take_rest bytes (1 + 4 * k)) ∙ e) in
     let size : entry.offset + entry.size - entry.offset ≡ entry.size = omega arith in
-    let e : take (entry.offset + entry.size - entry.offset) (drop entry.offset bytes) ≡ body_in bytes k =
+    let part : take (entry.offset + entry.size - entry.offset) (drop entry.offset bytes) ≡ body_in bytes k =
     ap (λ (n : ℕ). take n (drop entry.offset bytes)) (size ∙ sym says.sizes)
     ∙ ap (λ (n : ℕ). take (length_in bytes k) (drop n bytes)) (sym says.places) in
-    record { given = (h, e); book = λ bodies b. book_body bytes bodies b k _ h e }
+    record { given = (held, part); book = λ bodies b. book_body bytes bodies b k _ held part }

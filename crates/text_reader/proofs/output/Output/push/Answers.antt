@@ -1,9 +1,8 @@
-use Rattle.std.proofs.Common.{rules}
-use Rattle.text_reader.proofs.Outputs.{pushed, dropped}
+use Rattle.std.proofs.Common.{refl}
+use Rattle.text_reader.proofs.Outputs.{kept_code}
 use Rattle.text_reader.proofs.output.Output.push.Goals as goal
 
-pub returns-then-self-lt-MOST_CODES : goal.returns-then-self-lt-MOST_CODES
-returns-then-self-lt-MOST_CODES c = pushed _ _ c.if-self-lt-MOST_CODES.true (search rules)
-
-pub returns-else-self-lt-MOST_CODES : goal.returns-else-self-lt-MOST_CODES
-returns-else-self-lt-MOST_CODES c = dropped _ _ c.if-self-lt-MOST_CODES.false
+pub returns : goal.returns
+returns c =
+    let e = c.try_push.ensures in
+    kept_code c.try_push.result _ _ _ e.variant.0 (rw c.into.ensures at e.ok) e.err e.full refl
