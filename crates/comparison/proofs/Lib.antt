@@ -4,3 +4,4 @@ pub mod Living
 pub mod Answered
 pub mod Promised
 pub mod Kept
+pub mod Single

@@ -152,6 +152,12 @@ module _ {S : Type 0} (same : S → S → Bool) where
     pub rest : drop (length asks) new ≡ drop (length asks) old
     pub agrees : (plain : Plain S) → Matches s plain → Agrees s plain asks (take (length asks) new) u
 
+  -- one call was made, done or refused: what it did; and on a memory that matches a plain shelf the answer and the word list are the plain shelf's, and the memory
+  -- afterwards matches it as it is then
+  pub record Made (s : Memory S) (ask : Request S) (a : Reply) (u : Memory S) : Type 0 where
+    pub did : Did same s ask a u
+    pub agrees : (plain : Plain S) → Matches s plain → Says (has s.base) (length s.work) ask (plain (place_of ask)) s.word a u.word × Matches u (step ask a plain)
+
   -- nothing was written
   pub record Untouched (s u : Memory S) : Type 0 where
     pub shelf : u.base.shelf.records ≡ s.base.shelf.records

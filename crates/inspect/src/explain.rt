@@ -1,6 +1,5 @@
 // What one body of a book means.
 use crate::positions::Positions;
-use arrayvec::ArrayVec;
 use faults::Fault;
 use models::pairs::Pair;
 use models::tables::Sets;
@@ -12,47 +11,56 @@ use text_reader::{MOST_CODES, MOST_NAMES, read};
 use text_writer::write;
 
 /// Room for any text of the writer, which has at most 5,890 bytes.
-const MOST_TEXT: usize = 8192;
+pub(crate) const MOST_TEXT: usize = 8192;
+
+/// The lists that a model is read into, one model after the other.
+#[derive(Drop)]
+pub(crate) struct Lists<'a> {
+    pub(crate) text: &'a mut [u8; MOST_TEXT],
+    pub(crate) codes: &'a mut [u8; MOST_CODES],
+    pub(crate) names: &'a mut [NameRow; MOST_NAMES],
+    pub(crate) followers: &'a mut [u64; MOST_NAMES],
+}
 
 /// A model: its text as the writer gives it, its codes and names, the followers of each position, its sets, and its competing pair.
-#[derive(Drop)]
-pub(crate) struct Explanation {
-    text: ArrayVec<u8, MOST_TEXT>,
-    codes: ArrayVec<u8, MOST_CODES>,
-    names: ArrayVec<NameRow, MOST_NAMES>,
-    followers: ArrayVec<u64, MOST_NAMES>,
+// Its lists are lent: with an `ArrayVec` for each, which is cleared and moved for each body, small models took up to 2.5 times as long.
+#[derive(Clone, Copy)]
+pub(crate) struct Explanation<'a> {
+    text: &'a [u8],
+    codes: &'a [u8],
+    names: &'a [NameRow],
+    followers: &'a [u64],
     sets: Sets,
     competing: Option<Pair>,
 }
 
-impl Explanation {
+impl<'a> Explanation<'a> {
     /// What the text of a body means, or why it is refused.
-    pub(crate) fn of(body: &[u8]) -> Result<Explanation, Fault> {
-        let mut codes = ArrayVec::from([0; MOST_CODES]);
-        let mut names = ArrayVec::from([NameRow::default(); MOST_NAMES]);
-        let counts = read(body, &mut codes, &mut names)?;
-        codes.truncate(counts.codes);
-        names.truncate(counts.names);
-        let mut text = ArrayVec::from([0; MOST_TEXT]);
-        let size = write(&codes, &names, &mut text)?;
-        text.truncate(size);
-        let mut followers = ArrayVec::from([0; MOST_NAMES]);
-        let sets = sets(&codes, names.len(), &mut followers)?;
-        followers.truncate(names.len());
-        let competing = competing(&codes, &names)?;
-        Ok(Explanation {
+    pub(crate) fn of(body: &[u8], lists: Lists<'a>) -> Result<Explanation<'a>, Fault> {
+        let Lists {
             text,
             codes,
             names,
             followers,
+        } = lists;
+        let counts = read(body, codes, names)?;
+        let codes = &codes[..counts.codes];
+        let names = &names[..counts.names];
+        let size = write(codes, names, text)?;
+        let sets = sets(codes, names.len(), followers)?;
+        Ok(Explanation {
+            text: &text[..size],
+            codes,
+            names,
+            followers: &followers[..names.len()],
             sets,
-            competing,
+            competing: competing(codes, names)?,
         })
     }
 
     /// Writes the lines that tell it.
     pub(crate) fn write_to(&self, out: &mut impl Write) -> io::Result<()> {
-        out.write_all(&self.text)?;
+        out.write_all(self.text)?;
         self.write_parts(out)?;
         self.write_sets(out)?;
         match self.competing {

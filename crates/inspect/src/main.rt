@@ -5,11 +5,14 @@ mod explain;
 mod positions;
 
 use book::reading::Book;
-use explain::Explanation;
+use explain::{Explanation, Lists, MOST_TEXT};
 use faults::Numbered;
+use std::alloc::AllocError;
 use std::io::{Read, Write};
 use std::process::ExitCode;
 use std::{env, io};
+use symbols::name_rows::NameRow;
+use text_reader::{MOST_CODES, MOST_NAMES};
 
 const USAGE: &str =
     "usage: inspect < BOOK   explains each model of a book that is read from standard input";
@@ -24,8 +27,18 @@ fn report(out: &mut impl Write, bytes: &[u8]) -> io::Result<ExitCode> {
             return Ok(ExitCode::FAILURE);
         }
     };
+    let mut text = [0; MOST_TEXT];
+    let mut codes = [0; MOST_CODES];
+    let mut names = [NameRow::default(); MOST_NAMES];
+    let mut followers = [0; MOST_NAMES];
     for (k, body) in (0..book.count()).map_while(|k| book.body(k)).enumerate() {
-        match Explanation::of(body) {
+        let lists = Lists {
+            text: &mut text,
+            codes: &mut codes,
+            names: &mut names,
+            followers: &mut followers,
+        };
+        match Explanation::of(body, lists) {
             Ok(explanation) => {
                 write!(out, "body {k}: ")?;
                 explanation.write_to(out)?;
@@ -43,7 +56,8 @@ fn run(rt: &HostRuntime) -> anyhow::Result<ExitCode> {
     let mut input = Vec::new(rt.alloc());
     rt.stdin().read_to_end(&mut input)?;
     let mut out = Vec::new(rt.alloc());
-    let status = report(&mut out, &input)?;
+    // A vector refuses bytes only where memory runs out, which is said in the words of the allocator.
+    let status = report(&mut out, &input).map_err(|_| AllocError)?;
     rt.stdout().write_all(&out)?;
     Ok(status)
 }

@@ -1,6 +1,5 @@
 -- The lines of an input. Assumes nothing.
-use Rattle.std.specs.Prelude.{ℕ, ◌-◌, cond, List, [], ◌∷◌, ◌++◌, map, length, take, ◌==◌, slice_index}
-use Rattle.std.specs.List.{slice_split}
+use Rattle.std.specs.Prelude.{ℕ, ◌-◌, cond, List, [], ◌∷◌, ◌++◌, length, take, ◌==◌, slice_index}
 
 -- a line without the byte 13 that ends it
 abbrev pub without_return : List ℕ → List ℕ
@@ -13,7 +12,3 @@ lines_after begun (b ∷ more) = cond (b == 10) (without_return begun ∷ lines_
 
 abbrev pub lines_of : List ℕ → List (List ℕ)
 lines_of input = lines_after [] input
-
--- the parts of an input between the bytes 10, each without the byte 13 that ends it
-abbrev pub parts_of : List ℕ → List (List ℕ)
-parts_of input = map without_return (slice_split (λ b. b == 10) input)

@@ -1,13 +1,13 @@
 -- The stack of parts and the rows, under one code.
-use Rattle.std.proofs.Common.{◌≡◌, ℕ, ◌+◌, ◌/◌, ◌%◌, ◌^◌, ◌<◌, ◌⊎◌, List, [], ◌∷◌, ◌++◌, length, get_or, Decides, sym, ◌∙◌, subst, inl, inr, arith}
-use Rattle.std.proofs.lemmas.List.{same_from_push}
+use Rattle.std.proofs.Common.{◌≡◌, ℕ, ◌+◌, ◌/◌, ◌%◌, ◌^◌, ◌<◌, ◌≤◌, ◌⊎◌, List, [], ◌∷◌, ◌++◌, length, get_or, set, take, Decides, sym, refl, ap, ◌∙◌, subst, inl, inr, arith, length-append, length-take}
+use Rattle.std.proofs.lemmas.List.{same_from_push, take_more, take_more_set}
 use Rattle.std.proofs.lemmas.Bool.Decides.{Decides-eqb, Decides-like}
 use Rattle.models.specs.declared.tables.Sets.{Sets}
 use Rattle.codes.specs.Tree.{then, either, some}
 use Rattle.language.specs.Words.{Expr}
 use Rattle.language.specs.Sets.{First, Last, Follow}
 use Rattle.models.specs.Bitsets.{Bit, bit, ShowsSet}
-use Rattle.models.specs.Machine.{Shows, Stack, FollowAny, Rows, Linked}
+use Rattle.models.specs.Machine.{Shows, no_sets, Stack, FollowAny, Rows, Linked}
 use Rattle.models.proofs.Bitsets.{with_set}
 
 -- a part is put on top
@@ -19,6 +19,25 @@ pub popped : (ps qs : List Sets) (p : Sets) (e : Expr) (s : List Expr) → ps �
 popped ps qs p e s q k =
     let both = same_from_push qs k.0 p k.1 (sym q ∙ k.2) in
     (subst (λ r. Shows r e) (sym both.1) k.3, subst (λ l. Stack l s) (sym both.0) k.4)
+
+-- the last of the first d parts
+pub top_of : (ps : List Sets) (k d : ℕ) → k + 1 ≡ d → d ≤ length ps → take d ps ≡ take k ps ++ get_or ps k no_sets ∷ []
+top_of ps k d e h = ap (λ n. take n ps) (sym e) ∙ take_more ps k no_sets (omega arith)
+
+-- the same once that part is changed
+pub top_set : (ps : List Sets) (k d : ℕ) (q : Sets) → k + 1 ≡ d → d ≤ length ps → take d (set ps k q) ≡ take k ps ++ q ∷ []
+top_set ps k d q e h = ap (λ n. take n (set ps k q)) (sym e) ∙ take_more_set ps k q (omega arith)
+
+-- a stack of one part
+stack_none : (s : List Expr) → Stack [] s → s ≡ []
+stack_none [] k = refl
+stack_none (e ∷ s) k = absurd (omega (arith, length-append k.0 (k.1 ∷ []), ap length k.2))
+
+pub one_part : (ps : List Sets) (s : List Expr) → 1 ≤ length ps → Stack (take 1 ps) s → (e : Expr) × (s ≡ e ∷ []) × Shows (get_or ps 0 no_sets) e
+one_part ps [] h k = absurd (omega (arith, length-take 1 ps, ap length k))
+one_part ps (e ∷ s) h k =
+    let one = popped (take 1 ps) [] (get_or ps 0 no_sets) e s (top_of ps 0 1 refl h) k in
+    (e, ap (λ t. e ∷ t) (stack_none s one.1), one.0)
 
 -- two sets that are one
 pub set_like : (n : ℕ) (P Q : ℕ → Type 0) → ((x : ℕ) → P x → Q x) → ((x : ℕ) → Q x → P x) → ShowsSet n P → ShowsSet n Q

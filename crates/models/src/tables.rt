@@ -1,6 +1,6 @@
 // What the words of a model begin and end with, and whether one is empty, from its parts.
 ghost use Rattle.std.specs.Prelude.{◌≡◌, ◌+◌, ◌<◌};
-ghost use Rattle.codes.specs.Tree.{either, empty, leaf, many, maybe, then};
+ghost use Rattle.codes.specs.Tree.{either, empty, leaf, many, maybe, some, then};
 ghost use Rattle.language.specs.Words.{Expr};
 ghost use Rattle.models.specs.Machine.{Shows};
 ghost use Rattle.models.specs.Stepping.{can_end, set_after};
@@ -76,6 +76,17 @@ impl Sets {
     {
         Sets {
             nullable: true,
+            ..self
+        }
+    }
+
+    /// The sets of this part where it comes at least once: they are the same.
+    // Written out, since whether it may be empty is what differs from `optional`.
+    pub(crate) fn repeated(self) -> Sets
+        ensures { (e : Expr) → Shows self e → Shows result (some e) }
+    {
+        Sets {
+            nullable: self.nullable,
             ..self
         }
     }

@@ -1,22 +1,11 @@
 // What is done for a line, and told of it.
-use crate::bench::Bench;
+use crate::bench::{Bench, Stop};
 use crate::commands::{Command, Unread};
-use faults::Fault;
-use models::trials::Trial;
+use comparison::Answer;
 use std::alloc::Global;
 use std::io;
 use std::io::Write;
 use symbols::Printable;
-use thiserror::Error;
-
-/// Why a command has no answer.
-#[derive(Debug, Drop, Error)]
-enum Stop {
-    #[error(transparent)]
-    Refused(#[from] Fault),
-    #[error(transparent)]
-    Output(#[from] io::Error),
-}
 
 /// Whether a line is blank or begins with `#`, so that it asks for nothing.
 fn is_remark(line: &str) -> bool {
@@ -36,27 +25,25 @@ fn tell_missed(bench: &Bench, out: &mut impl Write, place: usize, length: usize)
     writeln!(out)
 }
 
-/// Does what a command asks for, and tells the answer.
-fn perform(bench: &mut Bench, out: &mut impl Write, command: &Command) -> Result<(), Stop> {
+/// Does what a command asks for.
+fn perform(bench: &mut Bench, command: &Command) -> Result<Answer, Stop> {
     match command {
-        Command::Load { place, codes, cues } => {
-            bench.load(*place, codes, cues)?;
-            writeln!(out, "done")?;
-        }
-        Command::Withdraw { place } => {
-            bench.withdraw(*place)?;
-            writeln!(out, "done")?;
-        }
-        Command::Try { place, cues } => match bench.trial(*place, cues)? {
-            Trial::Yes => writeln!(out, "yes")?,
-            Trial::No { longest } => writeln!(out, "no, {longest}")?,
-        },
-        Command::Compare { place, other } => match bench.compare(*place, *other)? {
-            None => writeln!(out, "included")?,
-            Some(length) => tell_missed(bench, out, *place, length)?,
-        },
+        Command::Load { place, codes, cues } => Ok(bench.load(*place, codes, cues)?),
+        Command::Withdraw { place } => Ok(bench.withdraw(*place)?),
+        Command::Try { place, cues } => Ok(bench.trial(*place, cues)?),
+        Command::Compare { place, other } => bench.compare(*place, *other),
     }
-    Ok(())
+}
+
+/// Tells the answer to a command on a place.
+fn tell(bench: &Bench, out: &mut impl Write, place: usize, answer: Answer) -> io::Result<()> {
+    match answer {
+        Answer::Done => writeln!(out, "done"),
+        Answer::Yes => writeln!(out, "yes"),
+        Answer::No { longest } => writeln!(out, "no, {longest}"),
+        Answer::Included => writeln!(out, "included"),
+        Answer::Missed { length } => tell_missed(bench, out, place, length),
+    }
 }
 
 /// Answers one line: nothing to a remark, and one line to any other.
@@ -76,9 +63,9 @@ pub(crate) fn answer(
         Err(unread) => return writeln!(out, "line {number}: {unread}"),
     };
     write!(out, "{command}: ")?;
-    match perform(bench, out, &command) {
-        Ok(()) => Ok(()),
+    match perform(bench, &command) {
+        Ok(answer) => tell(bench, out, command.place(), answer),
         Err(Stop::Refused(fault)) => writeln!(out, "{fault}"),
-        Err(Stop::Output(error)) => Err(error),
+        Err(Stop::Memory(error)) => Err(error.into()),
     }
 }

@@ -2,7 +2,7 @@
 use std::alloc::{AllocError, Global};
 use std::fmt;
 use std::num::ParseIntError;
-use std::str::FromStr;
+use std::str::{FromStr, SplitAsciiWhitespace};
 use symbols::cue_rows::CueRow;
 use thiserror::Error;
 
@@ -48,26 +48,40 @@ fn number<N: FromStr<Err = ParseIntError>>(digits: &str) -> Result<N, Unread> {
     digits.parse().map_err(|_| Unread::NotCommand)
 }
 
-/// The byte of two hexadecimal digits; a sign is none.
-fn byte(digits: &str) -> Result<u8, Unread> {
-    if digits.len() != 2 || digits.starts_with('+') {
-        return Err(Unread::NotCommand);
-    }
-    u8::from_str_radix(digits, 16).map_err(|_| Unread::NotCommand)
+/// The byte of two hexadecimal digits.
+fn byte(high: u8, low: u8) -> Option<u8> {
+    let high = char::from(high).to_digit(16)?;
+    let low = char::from(low).to_digit(16)?;
+    Some((16 * high + low) as u8)
 }
 
 /// The cue of two such bytes with a point between.
+// By its five bytes: a search for the point and a number of any length took half as long again.
 fn cue(word: &str) -> Result<CueRow, Unread> {
-    let (status, datum) = word.split_once('.').ok_or(Unread::NotCommand)?;
-    Ok(CueRow {
-        status: byte(status)?,
-        datum: byte(datum)?,
-    })
+    let [a, b, b'.', c, d] = word.as_bytes() else {
+        return Err(Unread::NotCommand);
+    };
+    let status = byte(*a, *b).ok_or(Unread::NotCommand)?;
+    let datum = byte(*c, *d).ok_or(Unread::NotCommand)?;
+    Ok(CueRow { status, datum })
 }
 
-/// The cues of these words.
-fn cues(heap: Global, words: &[&str]) -> Result<Vec<CueRow>, Unread> {
-    words.iter().map(|word| cue(word)).try_collect(heap)
+/// The next word of a line.
+fn next<'a>(words: &mut SplitAsciiWhitespace<'a>) -> Result<&'a str, Unread> {
+    words.next().ok_or(Unread::NotCommand)
+}
+
+/// Refuses a line that has more words.
+fn end(words: &mut SplitAsciiWhitespace) -> Result<(), Unread> {
+    match words.next() {
+        None => Ok(()),
+        Some(_) => Err(Unread::NotCommand),
+    }
+}
+
+/// The cues of the words that are left.
+fn cues(heap: Global, words: SplitAsciiWhitespace) -> Result<Vec<CueRow>, Unread> {
+    words.map(|word| cue(word)).try_collect(heap)
 }
 
 /// The codes of a word, with commas between.
@@ -77,26 +91,41 @@ fn codes(heap: Global, word: &str) -> Result<Vec<u8>, Unread> {
 
 impl Command {
     /// The command of a line.
+    // Words are taken one by one: a list of all of them would need more memory than the line.
     pub(crate) fn read(heap: Global, line: &str) -> Result<Command, Unread> {
-        let words: Vec<&str> = line.split_ascii_whitespace().collect(heap)?;
-        match words.as_slice() {
-            ["load", place, code, rest @ ..] => Ok(Command::Load {
-                place: number(place)?,
-                codes: codes(heap, code)?,
-                cues: cues(heap, rest)?,
+        let mut words = line.split_ascii_whitespace();
+        match next(&mut words)? {
+            "load" => Ok(Command::Load {
+                place: number(next(&mut words)?)?,
+                codes: codes(heap, next(&mut words)?)?,
+                cues: cues(heap, words)?,
             }),
-            ["withdraw", place] => Ok(Command::Withdraw {
-                place: number(place)?,
+            "withdraw" => {
+                let place = number(next(&mut words)?)?;
+                end(&mut words)?;
+                Ok(Command::Withdraw { place })
+            }
+            "try" => Ok(Command::Try {
+                place: number(next(&mut words)?)?,
+                cues: cues(heap, words)?,
             }),
-            ["try", place, rest @ ..] => Ok(Command::Try {
-                place: number(place)?,
-                cues: cues(heap, rest)?,
-            }),
-            ["compare", place, other] => Ok(Command::Compare {
-                place: number(place)?,
-                other: number(other)?,
-            }),
+            "compare" => {
+                let place = number(next(&mut words)?)?;
+                let other = number(next(&mut words)?)?;
+                end(&mut words)?;
+                Ok(Command::Compare { place, other })
+            }
             _ => Err(Unread::NotCommand),
+        }
+    }
+
+    /// The place that the command is about.
+    pub(crate) fn place(&self) -> usize {
+        match self {
+            Command::Load { place, .. }
+            | Command::Withdraw { place }
+            | Command::Try { place, .. }
+            | Command::Compare { place, .. } => *place,
         }
     }
 }

@@ -7,6 +7,7 @@ mod commands;
 
 use answering::answer;
 use bench::Bench;
+use std::alloc::AllocError;
 use std::env;
 use std::io::Write;
 use std::process::ExitCode;
@@ -18,13 +19,15 @@ fn run(rt: &HostRuntime) -> anyhow::Result<()> {
     let mut bench = Bench::new(rt.alloc())?;
     for (k, line) in rt.lines(rt.alloc()).enumerate() {
         let mut told = Vec::new(rt.alloc());
+        // A vector refuses bytes only where memory runs out, which is said in the words of the allocator.
         answer(
             rt.alloc(),
             &mut bench,
             &mut told,
             k.saturating_add(1),
             &line?,
-        )?;
+        )
+        .map_err(|_| AllocError)?;
         rt.stdout().write_all(&told)?;
     }
     Ok(())

@@ -1,10 +1,10 @@
 -- One call on a desk, by a list of one call. Assumes nothing.
-use Rattle.std.proofs.Common.{◌≡◌, ℕ, ◌+◌, ◌*◌, ◌<◌, Bool, true, false, cond, eqb, List, [], ◌∷◌, ◌++◌, length, get_or, take, is_some, Some, Ok, Err, Result, sym, refl, ap, ◌∙◌, subst, inl, inr, arith}
+use Rattle.std.proofs.Common.{◌≡◌, ℕ, ◌+◌, ◌*◌, ◌<◌, true, false, cond, eqb, List, [], ◌∷◌, ◌++◌, length, get_or, is_some, Some, Ok, Err, Result, sym, refl, ap, ◌∙◌, subst, inl, inr, arith}
 use Rattle.std.specs.List.{slice_get}
 use Rattle.std.specs.Result.{is_ok}
 use Rattle.std.proofs.lemmas.Option.{slice_get_past, slice_get-get_or}
 use Rattle.std.proofs.lemmas.List.{length_push, get_or_push, get_or_append_left}
-use Rattle.std.proofs.lemmas.Bool.{cases_order, eq-eqb, ne_eqb, lt-ltb, le-leb, and_from, cond-true, cond-false, false≢true}
+use Rattle.std.proofs.lemmas.Bool.{cases_order, eq-eqb, ne_eqb, lt-ltb, le-leb, and_from, cond-true, cond-false}
 use Rattle.symbols.specs.NameRows.{name_same}
 use Rattle.symbols.specs.declared.name_rows.NameRow.{NameRow}
 use Rattle.language.specs.Meaning.{Model}
@@ -14,58 +14,16 @@ use Rattle.comparison.specs.declared.calls.TooFewAnswers.{TooFewAnswers}
 use Rattle.comparison.specs.Answers.{Reply}
 use Rattle.comparison.specs.declared.calls.Answer.{Answer}
 use Rattle.comparison.specs.declared.calls.Answer.TheVariants as answer
-use Rattle.comparison.specs.Runs.{Request, loads, Memory, Plain, answer_of_done, place_of, step, when_done, Did, load, Run, none, more, Says, Lives, rests, calls, Matches, Replayed, Replays}
+use Rattle.comparison.specs.Runs.{Request, loads, Memory, answer_of_done, step, when_done, Did, load, Replays}
+use Rattle.comparison.proofs.Single.{made}
 use Rattle.slip.specs.declared.desks.Desk.{Desk}
-use Rattle.slip.specs.Desks.{Models, memory_of, Roomy, Has, Said, Called, OfLoad, Next, Puts}
+use Rattle.slip.specs.Desks.{Models, memory_of, Roomy, Has, Called, OfLoad, Next, Puts}
 
--- a run of one call
-run_one : (s u : Memory NameRow) (ask : Request NameRow) (rs : List Reply) → Run name_same s (ask ∷ []) rs u → (a : Reply) × (rs ≡ a ∷ []) × Did name_same s ask a u
-run_one s u ask rs (more {r = r} d none) = (r, refl, d)
-
--- the plain shelf over one call, after which it is over
-rests_one : (places : ℕ → Bool) (work : ℕ) (plain after : Plain NameRow) (word word' : List ℕ) (rs : List Reply) → Lives name_same places work plain word [] rs after word' → (rs ≡ []) × (after ≡ plain) × (word' ≡ word)
-rests_one places work plain after word word' rs rests = (refl, refl, refl)
-
-lives_one : (places : ℕ → Bool) (work : ℕ) (plain after : Plain NameRow) (word word' : List ℕ) (ask : Request NameRow) (rs : List Reply)
-    → Lives name_same places work plain word (ask ∷ []) rs after word'
-    → (a : Reply) × (rs ≡ a ∷ []) × Says name_same places work ask (plain (place_of ask)) word a word' × (after ≡ step ask a plain)
-lives_one places work plain after word word' ask rs (calls {word' = v} {r = r} {rs = qs} s l) =
-    let z = rests_one places work (step ask r plain) after v word' qs l in
-    (r, ap (λ (t : List Reply). r ∷ t) z.0, subst (Says name_same places work ask (plain (place_of ask)) word r) (sym z.2) s, z.1)
-
--- the one answer stands first
-first_answer : (new : List Reply) (a : Reply) → take 1 new ≡ a ∷ [] → a ≡ get_or new 0 (Ok answer.Done)
-first_answer [] a e = let z : ◌≡◌ {A = ℕ} 0 1 = cc in absurd (omega arith)
-first_answer (b ∷ new) a e = cc
-
-module _ (d e : Desk) (ask : Request NameRow) (old new : List Reply) where
-  abbrev a : Reply
-  a = get_or new 0 (Ok answer.Done)
-
-  one_said : Replayed name_same (memory_of d) (ask ∷ []) old new (memory_of e) → (plain : Plain NameRow) → Matches name_same (memory_of d) plain → Said d ask a e plain
-  one_said r plain m =
-      let g = r.agrees plain m in
-      let l = lives_one (has (memory_of d).base) (length d.work) plain g.after d.word e.word ask (take 1 new) g.lives in
-      let f = first_answer new l.0 l.1 in (
-        subst (λ b. Says name_same (has (memory_of d).base) (length d.work) ask (plain (place_of ask)) d.word b e.word) f l.2,
-        subst (λ b. Matches name_same (memory_of e) (step ask b plain)) f (subst (Matches name_same (memory_of e)) l.3 g.holds),
-      )
-
-  one_did : Replayed name_same (memory_of d) (ask ∷ []) old new (memory_of e) → Did name_same (memory_of d) ask a (memory_of e)
-  one_did r =
-      let l = run_one (memory_of d) (memory_of e) ask (take 1 new) r.ran in
-      subst (λ b. Did name_same (memory_of d) ask b (memory_of e)) (first_answer new l.0 l.1) l.2
-
-  -- a replay that is done
-  done_replayed : (done : Result (Unit {0}) TooFewAnswers) (asks : List (Request NameRow)) → is_ok done ≡ true → Replays name_same done (memory_of d) asks old new (memory_of e)
-      → Replayed name_same (memory_of d) asks old new (memory_of e)
-  done_replayed (Ok x) asks p r = r
-  done_replayed (Err f) asks p r = absurd (false≢true p)
-
-  pub called : (Roomy d → Roomy e) → (done : Result (Unit {0}) TooFewAnswers) (asks : List (Request NameRow)) → is_ok done ≡ true → asks ≡ ask ∷ [] → Replays name_same done (memory_of d) asks old new (memory_of e) → Called d ask a e
-  called k done asks p q r =
-      let h : Replayed name_same (memory_of d) (ask ∷ []) old new (memory_of e) = subst (λ l. Replayed name_same (memory_of d) l old new (memory_of e)) q (done_replayed done asks p r) in
-      record { did = one_did h; agrees = one_said h; roomy = k }
+pub called : (d e : Desk) (ask : Request NameRow) (old new : List Reply) → (Roomy d → Roomy e) → (done : Result (Unit {0}) TooFewAnswers) (asks : List (Request NameRow)) → is_ok done ≡ true → asks ≡ ask ∷ []
+    → Replays name_same done (memory_of d) asks old new (memory_of e) → Called d ask (get_or new 0 (Ok answer.Done)) e
+called d e ask old new k done asks p q r =
+    let h = made name_same (memory_of d) (memory_of e) ask old new done asks p q r in
+    record { did = h.did; agrees = h.agrees; roomy = k }
 
 did_load : (s u : Memory NameRow) (p : ℕ) (m : Model NameRow) (a : Reply) → Did name_same s (loads p m) a u → OfLoad a
 did_load s u p m a (load (Ok t) l) = tt

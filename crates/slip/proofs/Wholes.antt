@@ -1,11 +1,13 @@
 -- From the steps of printing to all that is printed. Assumes nothing.
-use Rattle.std.proofs.Common.{◌≡◌, ℕ, ◌+◌, ◌<◌, ◌≤◌, List, [], ◌∷◌, ◌++◌, length, get_or, take, drop, false, Err, Ok, Result, IsErrAnd, MatchResult, codes, decimal, sym, refl, ap, ◌∙◌, subst, arith}
+use Rattle.std.proofs.Common.{◌≡◌, ℕ, ◌+◌, ◌<◌, ◌≤◌, List, [], ◌∷◌, ◌++◌, length, get_or, take, drop, Bool, false, Err, Ok, Result, IfOk, IsErrAnd, MatchResult, codes, decimal, sym, refl, ap, ◌∙◌, subst, arith}
 use Rattle.std.proofs.lemmas.Option.{slice_get-get_or}
 use Rattle.std.proofs.lemmas.List.{append-nil, append_assoc, take_more, take_all, drop_more, drop_all, length-take, get_or-take}
 use Rattle.faults.specs.declared.Fault.{Fault}
 use Rattle.symbols.specs.NameRows.{row_bytes}
 use Rattle.symbols.specs.declared.name_rows.NameRow.{NameRow}
 use Rattle.language.specs.Meaning.{Model, given}
+use Rattle.book.specs.Books.{IsBook}
+use Rattle.book.specs.Entries.{bodies_in}
 use Rattle.book.specs.Line.{line_of}
 use Rattle.verdicts.specs.Texts.{Gives, Faulty}
 use Rattle.slip.specs.Printed.{AllGive, none, more, FirstFaulty, Lines, one, next, Printed, no_book, no_model}
@@ -13,7 +15,7 @@ use Rattle.slip.specs.Desks.{Models, Reads, Told}
 use Rattle.slip.specs.declared.desks.Desk.{Desk}
 use Rattle.slip.specs.declared.refusals.Refusal.{Refusal}
 use Rattle.slip.specs.declared.refusals.Refusal.TheVariants.{Book, Body}
-use Rattle.slip.specs.Loads.{Loads, LoadsBook}
+use Rattle.slip.specs.Loads.{Loads, Refuses}
 use Rattle.slip.specs.Refusals.{refusal_shown}
 use Rattle.faults.specs.Shown.{numbered_shown, fault_shown}
 use Rattle.shelf.specs.Calls.{Done}
@@ -84,9 +86,20 @@ refused_body bodies k ms d (Err f) (Err y) x P h a m t e g =
     let z : x ≡ Body k f = cc in
     subst (λ (w : Refusal). Loads bodies (Err w) d) (sym z) (first_faulty bodies k ms f h a g)
 
+-- a book is refused for the body that was not loaded
+pub refused_load : (bytes : List ℕ) (r : Refusal) (d : Desk) → IsBook bytes (bodies_in bytes) → Loads (bodies_in bytes) (Err r) d → Refuses bytes r
+refused_load bytes (Book f) d w h = absurd h
+refused_load bytes (Body k f) d w h = (w, h)
+
 -- what is printed for a refusal
-pub printed_refusal : (bytes out : List ℕ) (r : Refusal) (d : Desk) → LoadsBook bytes (Err r) d → out ≡ refusal_shown r ++ 10 ∷ [] → Printed bytes out false
-printed_refusal bytes out (Book f) d h e = no_book h (e ∙ append_assoc (codes "book: ") (numbered_shown f) (10 ∷ []))
-printed_refusal bytes out (Body k f) d h e =
+pub printed_refusal : (bytes out : List ℕ) (r : Refusal) → Refuses bytes r → out ≡ refusal_shown r ++ 10 ∷ [] → Printed bytes out false
+printed_refusal bytes out (Book f) h e = no_book h (e ∙ append_assoc (codes "book: ") (numbered_shown f) (10 ∷ []))
+printed_refusal bytes out (Body k f) h e =
     no_model h.0 h.1 (e ∙ append_assoc (codes "body ") (decimal k ++ (codes ": " ++ fault_shown f)) (10 ∷ [])
     ∙ ap (λ (w : List ℕ). codes "body " ++ w) (append_assoc (decimal k) (codes ": " ++ fault_shown f) (10 ∷ []) ∙ ap (λ (w : List ℕ). decimal k ++ w) (append_assoc (codes ": ") (fault_shown f) (10 ∷ []))))
+
+-- a slip of the text of a refusal is what is printed
+pub printed_refused : {A E : Type 0} (bytes : List ℕ) (r : Refusal) (text : A → List ℕ) (whole : A → Bool) (x : Result A E) → Refuses bytes r
+    → IfOk x (λ s. (text s ≡ refusal_shown r ++ 10 ∷ []) × (whole s ≡ false)) → IfOk x (λ s. Printed bytes (text s) (whole s))
+printed_refused bytes r text whole (Ok s) h e = subst (λ (b : Bool). Printed bytes (text s) b) (sym e.1) (printed_refusal bytes (text s) r h e.0)
+printed_refused bytes r text whole (Err a) h e = e

@@ -1,9 +1,10 @@
 // What is printed for a book.
-ghost use Rattle.std.specs.Prelude.{◌≡◌, ◌≤◌, [], length, IfOk};
+ghost use Rattle.std.specs.Prelude.{◌≡◌, ◌≤◌, [], ◌∷◌, ◌++◌, length, false, IfOk};
 ghost use Rattle.book.specs.Entries.{bodies_in};
 ghost use Rattle.slip.specs.Printed.{Lines, Printed};
 ghost use Rattle.slip.specs.Desks.{Has, Models};
-ghost use Rattle.slip.specs.Loads.{Loads, LoadsBook};
+ghost use Rattle.slip.specs.Loads.{Loads};
+ghost use Rattle.slip.specs.Refusals.{refusal_shown};
 
 use crate::desks::Desk;
 use crate::refusals::Refusal;
@@ -31,15 +32,6 @@ fn load_all(desk: &mut Desk, book: &Book) -> Result<(), Refusal>
     Ok(())
 }
 
-/// Reads a book and loads the models of its bodies, and tells how many there are.
-fn load_book(desk: &mut Desk, bytes: &[u8]) -> Result<usize, Refusal>
-    ensures { Has desk.old [] → LoadsBook bytes.now result desk.new }
-{
-    let book = Book::read(bytes)?;
-    load_all(desk, &book)?;
-    Ok(book.count())
-}
-
 /// The lines of so many models, each against the next.
 fn lines(heap: Global, desk: &mut Desk, count: usize) -> Result<Vec<u8>, AllocError>
     requires { (ms : Models) × Has desk.old ms × (length ms ≡ count) × (1 ≤ count) }
@@ -53,20 +45,36 @@ fn lines(heap: Global, desk: &mut Desk, count: usize) -> Result<Vec<u8>, AllocEr
     Ok(text)
 }
 
+/// What is printed for a refusal.
+fn refused(heap: Global, refusal: Refusal) -> Result<Slip, AllocError>
+    ensures { IfOk result (λ s. (s.text.items ≡ refusal_shown refusal ++ 10 ∷ []) × (s.whole ≡ false)) }
+{
+    let text = format!(in heap; "{refusal}\n")?.into_bytes();
+    Ok(Slip { text, whole: false })
+}
+
+/// What is printed for a book.
+// A function of its own, since a desk is large: it is made only for bytes that are a book.
+fn slip_of_book(heap: Global, book: &Book) -> Result<Slip, AllocError>
+    ensures { IfOk result (λ s. Printed book.now.bytes.now s.text.items s.whole) }
+{
+    let mut desk = Desk::new();
+    match load_all(&mut desk, book) {
+        Ok(()) => {
+            let text = lines(heap, &mut desk, book.count())?;
+            Ok(Slip { text, whole: true })
+        }
+        Err(refusal) => refused(heap, refusal),
+    }
+}
+
 /// What is printed for the bytes of a book: a line for each model and the next, once all are loaded; or one line where the bytes
 /// are no book, or for the first body that gives no model.
 pub fn slip_of(heap: Global, bytes: &[u8]) -> Result<Slip, AllocError>
     ensures { IfOk result (λ s. Printed bytes.now s.text.items s.whole) }
 {
-    let mut desk = Desk::new();
-    match load_book(&mut desk, bytes) {
-        Ok(count) => {
-            let text = lines(heap, &mut desk, count)?;
-            Ok(Slip { text, whole: true })
-        }
-        Err(refusal) => {
-            let text = format!(in heap; "{refusal}\n")?.into_bytes();
-            Ok(Slip { text, whole: false })
-        }
+    match Book::read(bytes) {
+        Ok(book) => slip_of_book(heap, &book),
+        Err(fault) => refused(heap, fault.into()),
     }
 }

@@ -32,7 +32,8 @@ impl NameRow {
     pub fn width(&self) -> usize
         ensures { result ≡ width self.now.len }
     {
-        self.len.clamp(1, 32) as usize
+        // Not `clamp`, which compiles to branches: this stands in each comparison of two names.
+        self.len.min(32).max(1) as usize
     }
 
     /// The bytes that count.

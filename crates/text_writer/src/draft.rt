@@ -8,7 +8,7 @@ use std::marker::Model;
 const MOST_BYTES: usize = 5890;
 
 /// The text so far: the bytes from `from` on.
-// No vector of the kit grows at its front, and the text has to be one slice.
+// What of the kit grows at its front, `VecDeque` and `HeapCircularBuffer`, lies on a heap, and the writer takes none.
 #[derive(Drop)]
 pub struct Draft {
     bytes: [u8; MOST_BYTES],

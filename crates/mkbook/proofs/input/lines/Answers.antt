@@ -1,25 +1,27 @@
-use Rattle.std.proofs.Common.{◌≡◌, ◌<◌, length, take, ◌-◌, IfSome, ap, sym, ◌∙◌, arith, rules}
-use Rattle.std.specs.Option.{option_copied}
-use Rattle.std.specs.List.{slice_get}
-use Rattle.std.proofs.lemmas.Grind.{common_steps}
-use Rattle.book.specs.Makings.{contents}
-use Rattle.mkbook.specs.Lines.{lines_of, parts_of}
-use Rattle.mkbook.proofs.Split.{kept, lines_kept, kept_all, kept_front}
+use Rattle.std.proofs.Common.{rules, tests, subst, ◌∙◌, None}
+use Rattle.std.proofs.Math.Numerals.{add-one}
+use Rattle.std.proofs.lemmas.Iterator.{IsFirst-from_position, YieldsList-from_slice}
+use Rattle.std.proofs.lemmas.List.{take_rest}
+use Rattle.mkbook.proofs.Split.{Feed, Other, Ends, found_line, found_none, found_last}
 use Rattle.mkbook.proofs.input.lines.Goals as goal
-use Rattle.mkbook.proofs.input.lines.Goals.{then-is_some_and, else-is_some_and}
+use Rattle.mkbook.proofs.input.lines.Goals.{then-not-is_empty+in_ok-push-2, else-not-is_empty}
+
+pub loop-end-preserved : goal.loop-end-preserved
+loop-end-preserved c =
+    let rest = c.loop-end.rest.now in
+    let ends : Ends rest c.position.result = IsFirst-from_position _ _ c.position.result Feed Other c.position.ensures.ran (YieldsList-from_slice rest c.iter.ensures.rest) (λ x q k. search (rules, tests)) (λ x q k. search (rules, tests)) in
+    rw (c.in_ok-push.ensures.items, take_rest, add-one) (found_line c.loop-end.lines.items rest c.trimmed.result c.in-Some.end (subst (Ends rest) c.in-Some.is ends) c.trimmed.ensures ∙ c.loop-end.invariant)
 
 pub returns : goal.returns
 returns c =
-    let found : contents c.in_ok-lines.lines.items ≡ parts_of c.args.input.now = search rules in
-    let items = c.in_ok-lines.lines.items in
-    let got : option_copied c.last.result ≡ slice_get items (length items - 1) = cc in
-    let kept_is : kept (contents items) ≡ lines_of c.args.input.now = ap kept found ∙ sym (lines_kept c.args.input.now) in
-    elim c.if-is_some_and.branch [
-      | then-is_some_and w ↦
-          let empty : IfSome c.last.result (λ x. length x.now.now ≡ 0) = grind (arith, common_steps) in
-          let rest : w.pop.new.self.items ≡ take (length items - 1) items = cc in
-          rw (w.lines-is, rest) (sym (kept_front items c.last.result got empty) ∙ kept_is)
-      | else-is_some_and w ↦
-          let full : IfSome c.last.result (λ x. 0 < length x.now.now) = grind (arith, common_steps) in
-          rw w.lines-is (sym (kept_all items c.last.result got full) ∙ kept_is)
+    let rest = c.loop-end.rest.now in
+    let lines = c.loop-end.lines.items in
+    let last = c.trimmed-last.result in
+    let ends : Ends rest c.position.result = IsFirst-from_position _ _ c.position.result Feed Other c.position.ensures.ran (YieldsList-from_slice rest c.iter.ensures.rest) (λ x q k. search (rules, tests)) (λ x q k. search (rules, tests)) in
+    let none : Ends rest None = subst (Ends rest) c.in_default.is ends in
+    elim c.if-not-is_empty.branch [
+      | then-not-is_empty+in_ok-push-2 w ↦
+          rw (w.lines-is, w.in_ok-push-2.ensures.items) (found_last lines rest last none c.trimmed-last.ensures w.if-not-is_empty.ensures ∙ c.loop-end.invariant)
+      | else-not-is_empty w ↦
+          rw w.lines-is (found_none lines rest last none c.trimmed-last.ensures w.if-not-is_empty.ensures ∙ c.loop-end.invariant)
     ]
