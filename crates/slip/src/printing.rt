@@ -54,7 +54,8 @@ fn refused(heap: Global, refusal: Refusal) -> Result<Slip, AllocError>
 }
 
 /// What is printed for a book.
-// A function of its own, since a desk is large: it is made only for bytes that are a book.
+// A function of its own, and never inlined, since a desk is large: bytes that are no book take neither its time nor its stack.
+#[inline(never)]
 fn slip_of_book(heap: Global, book: &Book) -> Result<Slip, AllocError>
     ensures { IfOk result (λ s. Printed book.now.bytes.now s.text.items s.whole) }
 {
