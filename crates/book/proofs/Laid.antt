@@ -1,7 +1,8 @@
 -- The layout of a book, read from its bytes and read from its bodies. Assumes nothing.
-use Rattle.std.proofs.Common.{◌≡◌, ℕ, zero, suc, ◌+◌, ◌*◌, ◌<◌, ◌≤◌, List, [], ◌∷◌, ◌++◌, map, length, get_or, take, drop, sym, refl, ap, ◌∙◌, subst, inl, inr, add-one, arith}
+use Rattle.std.proofs.Common.{◌≡◌, ℕ, zero, suc, ◌+◌, ◌-◌, ◌*◌, ◌<◌, ◌≤◌, List, [], ◌∷◌, ◌++◌, map, length, get_or, take, drop, Option, None, Some, MatchOption, Bor, sym, refl, ap, ◌∙◌, subst, inl, inr, add-one, arith}
 use native.Mathlib.Nat.{mod-add-div}
 use Rattle.std.specs.List.{range_with_len}
+use Rattle.std.specs.Slice.{IsGetRangeResult}
 use Rattle.std.proofs.lemmas.List.{append_assoc, append-nil, length-append, length-drop, drop-drop, get_or-drop, take_at, drop_at}
 use Rattle.std.proofs.lemmas.Bool.{cases_lt}
 use Rattle.std.proofs.lemmas.List.FromFn.{get_or-map-range_with_len}
@@ -165,6 +166,18 @@ module _ (bytes : List ℕ) (bodies : List (List ℕ)) (h : IsBook bytes bodies)
     e ∙ sym (get_or-map-range_with_len (body_in bytes) 0 (count_in bytes) k k [] g.0 (omega arith)) ∙ ap (λ (w : List (List ℕ)). get_or w k []) (sym book_bodies),
   )
 
+  -- what the bytes give as body k is body k of the book
+  pub book_given : (k : ℕ) (given : Option (Bor (List ℕ))) → MatchOption given (Holds bytes k → ⊥) (λ p. Holds bytes k × (p.now ≡ body_in bytes k)) → MatchOption given (length bodies ≤ k) (λ p. (k < length bodies) × (p.now ≡ get_or bodies k []))
+  book_given k None n = book_no_body k n
+  book_given k (Some p) g = book_body k p.now g.0 g.1
+
 -- each entry that a book counts holds
 pub book_held : (bytes : List ℕ) → IsBook bytes (bodies_in bytes) → (k : ℕ) → k < count_in bytes → Holds bytes k
 book_held bytes h k l = book_holds bytes (bodies_in bytes) h k (omega (arith, book_count bytes (bodies_in bytes) h))
+
+-- the part of the bytes from where body k begins up to where it ends is there, and is body k
+pub part_given : (bytes : List ℕ) (k from to : ℕ) (part : Option (Bor (List ℕ))) → IsGetRangeResult bytes from to part → Holds bytes k → from ≡ offset_in bytes k → to ≡ offset_in bytes k + length_in bytes k → MatchOption part (Holds bytes k → ⊥) (λ p. Holds bytes k × (p.now ≡ body_in bytes k))
+part_given bytes k from to None g held begins ends = absurd (elim g.0 [ inl l ↦ omega (arith, begins, ends) | inr l ↦ omega (arith, ends, held.2) ])
+part_given bytes k from to (Some p) g held begins ends =
+    let size : to - from ≡ length_in bytes k = omega (arith, begins, ends) in
+    (held, g.0.2 ∙ ap (λ (n : ℕ). take n (drop from bytes)) size ∙ ap (λ (n : ℕ). take (length_in bytes k) (drop n bytes)) begins)

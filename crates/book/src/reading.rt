@@ -87,6 +87,6 @@ impl<'a> Book<'a> {
             return None;
         }
         let (entry, _) = first_entry(&self.bytes[1 + 4 * k..]).unwrap();
-        Some(&self.bytes[entry.offset..entry.offset + entry.size])
+        self.bytes.get(entry.offset..entry.offset + entry.size)
     }
 }

@@ -1,9 +1,8 @@
-use Rattle.std.proofs.Common.{◌≡◌, ℕ, ◌+◌, ◌-◌, ◌*◌, ◌≤◌, ◌++◌, length, take, drop, sym, ap, ◌∙◌, arith}
+use Rattle.std.proofs.Common.{◌≡◌, ◌+◌, ◌-◌, ◌*◌, ◌≤◌, ◌++◌, length, take, drop, sym, ap, ◌∙◌, arith}
 use Rattle.std.proofs.lemmas.Grind.{common_steps}
 use Rattle.std.proofs.lemmas.List.{take_rest, length-drop}
 use Rattle.book.specs.Books.{two_bytes}
-use Rattle.book.specs.Entries.{length_in, body_in}
-use Rattle.book.proofs.Laid.{entry_says, book_held, book_body}
+use Rattle.book.proofs.Laid.{entry_says, book_held, book_given, part_given}
 use Rattle.book.proofs.reading.Book.body.Goals as goal
 
 pub slice_bounds-first_entry-count : goal.slice_bounds-first_entry-count
@@ -24,16 +23,6 @@ unwrap-requires c =
     let there : 4 ≤ length (take (length bytes - at) (drop at bytes)) = omega (arith, held.1, ap length (take_rest bytes at), length-drop at bytes) in
     grind (arith, common_steps)
 
-pub slice_bounds-result-end : goal.slice_bounds-result-end
-slice_bounds-result-end c =
-    let bytes = c.args.self.now.bytes.now in
-    let k = c.args.k in
-    let entry = c.unwrap.result.0 in
-    let held = book_held bytes c.args.self.now.whole k (omega (arith, c.count.ensures.value)) in
-    let e : take (length bytes - (1 + 4 * k)) (drop (1 + 4 * k) bytes) ≡ two_bytes entry.offset ++ (two_bytes entry.size ++ c.unwrap.result.1.now) = grind (arith, common_steps) in
-    let says = entry_says bytes k entry.offset entry.size c.unwrap.result.1.now (sym (take_rest bytes (1 + 4 * k)) ∙ e) in
-    omega (arith, held.2, says.places, says.sizes)
-
 pub returns : goal.returns
 returns c =
     let bytes = c.args.self.now.bytes.now in
@@ -42,8 +31,5 @@ returns c =
     let held = book_held bytes c.args.self.now.whole k (omega (arith, c.count.ensures.value)) in
     let e : take (length bytes - (1 + 4 * k)) (drop (1 + 4 * k) bytes) ≡ two_bytes entry.offset ++ (two_bytes entry.size ++ c.unwrap.result.1.now) = grind (arith, common_steps) in
     let says = entry_says bytes k entry.offset entry.size c.unwrap.result.1.now (sym (take_rest bytes (1 + 4 * k)) ∙ e) in
-    let size : entry.offset + entry.size - entry.offset ≡ entry.size = omega arith in
-    let part : take (entry.offset + entry.size - entry.offset) (drop entry.offset bytes) ≡ body_in bytes k =
-    ap (λ (n : ℕ). take n (drop entry.offset bytes)) (size ∙ sym says.sizes)
-    ∙ ap (λ (n : ℕ). take (length_in bytes k) (drop n bytes)) (sym says.places) in
-    record { given = (held, part); book = λ bodies b. book_body bytes bodies b k _ held part }
+    let given = part_given bytes k entry.offset _ c.get.result c.get.ensures.lookup held (omega (arith, says.places)) (omega (arith, says.places, says.sizes)) in
+    record { given = given; book = λ bodies b. book_given bytes bodies b k c.get.result given }
