@@ -166,7 +166,7 @@ module _ (bytes : List ℕ) (bodies : List (List ℕ)) (h : IsBook bytes bodies)
     e ∙ sym (get_or-map-range_with_len (body_in bytes) 0 (count_in bytes) k k [] g.0 (omega arith)) ∙ ap (λ (w : List (List ℕ)). get_or w k []) (sym book_bodies),
   )
 
-  -- what the bytes give as body k is body k of the book
+  -- what the bytes give as body k is body k of the book; where they give none, the book has no body k
   pub book_given : (k : ℕ) (given : Option (Bor (List ℕ))) → MatchOption given (Holds bytes k → ⊥) (λ p. Holds bytes k × (p.now ≡ body_in bytes k)) → MatchOption given (length bodies ≤ k) (λ p. (k < length bodies) × (p.now ≡ get_or bodies k []))
   book_given k None n = book_no_body k n
   book_given k (Some p) g = book_body k p.now g.0 g.1

@@ -19,11 +19,11 @@ use Rattle.text_reader.specs.declared.output.Output.{Output}
 use Rattle.text_reader.specs.Answer.{fault_of, Fits, Refused, few_codes, few_names, long_text, at_strange_byte, at_unexpected, at_long_name, at_too_deep, at_too_many, Readable, Taken, Answer, OneAnswer}
 use Rattle.text_reader.specs.Output.{Holds}
 
--- what was read, and copied to the lists
-pub taken : (t cs : List ℕ) (rs : List NameRow) (o : Output) (j : ℕ) (w : List ℕ) (ns : List (List ℕ)) (r : Counts) (c : List ℕ) (q : List NameRow) →
+-- what was read, and stands in the lists before what stood there
+pub taken : (t cs : List ℕ) (rs : List NameRow) (o : Output) (j : ℕ) (w : List ℕ) (ns : List (List ℕ)) (r : Counts) (cs' : List ℕ) (rs' : List NameRow) →
     Fits t cs rs → Whole t (good j w ns) → j ≤ length t → Holds o w ns → r.codes ≡ length o.codes.items → r.names ≡ length o.rows.items →
-    c ≡ o.codes.items → q ≡ o.rows.items → Taken t cs rs r (c ++ drop r.codes cs) (q ++ drop r.names rs) w ns
-taken t cs rs o j w ns r c q f g i h x y a b =
+    cs' ≡ o.codes.items ++ drop r.codes cs → rs' ≡ o.rows.items ++ drop r.names rs → Taken t cs rs r cs' rs' w ns
+taken t cs rs o j w ns r cs' rs' f g i h x y a b =
     let m = sound_whole t i g in
     let k = few g in
     let all : o.codes.items ≡ w = h.kept ∙ take_all 1280 w (room m k) in
@@ -37,8 +37,8 @@ taken t cs rs o j w ns r c q f g i h x y a b =
       are_names = names_are m;
       codes = codes;
       names = names;
-      wrote = ap (λ (z : List ℕ). z ++ drop r.codes cs) (a ∙ all) ∙ ap (λ (z : ℕ). w ++ drop z cs) codes;
-      named = ap (λ (z : List NameRow). z ++ drop r.names rs) (b ∙ h.named) ∙ ap (λ (z : ℕ). map name_row ns ++ drop z rs) names;
+      wrote = a ∙ ap (λ (z : List ℕ). z ++ drop r.codes cs) all ∙ ap (λ (z : ℕ). w ++ drop z cs) codes;
+      named = b ∙ ap (λ (z : List NameRow). z ++ drop r.names rs) h.named ∙ ap (λ (z : ℕ). map name_row ns ++ drop z rs) names;
     }
 
 -- the fault of a refused token

@@ -1,5 +1,6 @@
-use Rattle.std.proofs.Common.{Ok, refl, ◌∙◌}
+use Rattle.std.proofs.Common.{Ok, refl, rules}
 use Rattle.std.proofs.lemmas.Result.{err_from_is_err_and}
+use Rattle.std.proofs.lemmas.Slice.{drop-append-drop}
 use Rattle.text_reader.specs.Answer.{Fits, few_codes, few_names, long_text}
 use Rattle.text_reader.proofs.Final.{taken, refused_by, exact, unreadable}
 use Rattle.text_reader.proofs.read.Goals as goal
@@ -27,10 +28,16 @@ returns-in_err-read_whole c =
     let r = refused_by c.args.text.now c.args.codes.now c.args.names.now h.0 h.1 c.in_err-read_whole.field-0.0 f h.2 h.3 in
     rw (z.1, z.2) (record { answer = (r, refl, refl); exact = unreadable r })
 
-pub returns : goal.returns
-returns c =
+pub returns-clause-answer : goal.returns-clause-answer
+returns-clause-answer c =
     let o = c.read_whole.new.self.out in
     let d = c.in_ok-read_whole.ensures.0 in
-    let f : Fits c.args.text.now c.args.codes.now c.args.names.now = record { codes = c.if-codes-lt-MOST_CODES.false; names = c.if-names-lt-MOST_NAMES.false; short = c.if-text-gt-MOST_TEXT.false } in
-    let h = taken c.args.text.now c.args.codes.now c.args.names.now o c.read_whole.new.self.at d.0 d.1 (record { codes = c.len.result; names = c.len-2.result }) c.copy_from_slice.new.self c.copy_from_slice-2.new.self f d.2 d.3 d.4 c.len.ensures.value c.len-2.ensures.value (c.copy_from_slice.ensures.after ∙ c.deref.ensures.0) (c.copy_from_slice-2.ensures.after ∙ c.deref-2.ensures.0) in
-    record { answer = (d.0, d.1, h); exact = exact c.args.text.now c.args.codes.now c.args.names.now (Ok (record { codes = c.len.result; names = c.len-2.result })) _ _ (d.0, d.1, h) }
+    let f : Fits c.args.text.now c.args.codes.now c.args.names.now = record { codes = c.if-codes-lt-MOST_CODES.false; names = c.if-names-lt-MOST_NAMES.false; short = c.if-text-gt-MOST_TEXT.false } in (
+      d.0,
+      d.1,
+      taken c.args.text.now c.args.codes.now c.args.names.now o c.read_whole.new.self.at d.0 d.1 (record { codes = c.len.result; names = c.len-2.result }) _ _ f d.2 d.3 d.4 c.len.ensures.value c.len-2.ensures.value
+          (search (rules, drop-append-drop)) (search (rules, drop-append-drop)),
+    )
+
+pub returns-clause-exact : goal.returns-clause-exact
+returns-clause-exact c = exact c.args.text.now c.args.codes.now c.args.names.now (Ok (record { codes = c.len.result; names = c.len-2.result })) _ _ (returns-clause-answer c)

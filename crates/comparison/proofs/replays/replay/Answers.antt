@@ -9,7 +9,7 @@ loop-i-init g c = (none, refl, refl)
 
 pub loop-i-preserved : goal.loop-i-preserved
 loop-i-preserved g c = (
-  replay_more g.S.Symbol.same g.S.Symbol.laws (request g.R.Reader.table) c.args.calls.now _ _ _ c.loop-i.answers c.loop-i.i c.index-calls-i.result c.call.result c.loop-i-test.true (omega arith) c.index-calls-i.is c.loop-i.invariant.0 c.call.ensures,
+  replay_more g.S.Symbol.same g.S.Symbol.laws (request g.R.Reader.table) c.args.calls.now _ _ _ c.loop-i.answers c.loop-i.i _ c.call.result c.loop-i-test.true (omega arith) (search rules) c.loop-i.invariant.0 c.call.ensures,
   length-set c.loop-i.answers c.loop-i.i c.call.result ∙ c.loop-i.invariant.1,
   drop-set-lt _ c.loop-i.answers c.loop-i.i c.call.result c.loop-i-test.true ∙ c.loop-i.invariant.2,
 )

@@ -31,5 +31,5 @@ returns c =
     let held = book_held bytes c.args.self.now.whole k (omega (arith, c.count.ensures.value)) in
     let e : take (length bytes - (1 + 4 * k)) (drop (1 + 4 * k) bytes) ≡ two_bytes entry.offset ++ (two_bytes entry.size ++ c.unwrap.result.1.now) = grind (arith, common_steps) in
     let says = entry_says bytes k entry.offset entry.size c.unwrap.result.1.now (sym (take_rest bytes (1 + 4 * k)) ∙ e) in
-    let given = part_given bytes k entry.offset _ c.get.result c.get.ensures.lookup held (omega (arith, says.places)) (omega (arith, says.places, says.sizes)) in
+    let given = part_given bytes k _ _ c.get.result c.get.ensures.lookup held (omega (arith, says.places)) (omega (arith, says.places, says.sizes)) in
     record { given = given; book = λ bodies b. book_given bytes bodies b k c.get.result given }
