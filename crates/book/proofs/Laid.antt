@@ -60,6 +60,10 @@ entry_says bytes k offset size rest e =
     the_byte : (i : ℕ) → entry_byte bytes k i ≡ get_or (two_bytes offset ++ (two_bytes size ++ rest)) i 0
     the_byte i = sym (get_or-drop (1 + 4 * k) bytes i 0) ∙ ap (λ (w : List ℕ). get_or w i 0) e
 
+-- body k as it is given of the bytes: the part that entry k says, and none only where entry k does not hold
+abbrev pub Gives : List ℕ → ℕ → Option (Bor (List ℕ)) → Type 0
+Gives bytes k given = MatchOption given (Holds bytes k → ⊥) (λ p. Holds bytes k × (p.now ≡ body_in bytes k))
+
 -- what is left of the bytes from entry k on, and from body k on
 record Rest (bytes all : List ℕ) (k : ℕ) (more : List (List ℕ)) : Type 0 where
   entries : drop (1 + 4 * k) bytes ≡ entries_from (start_in bytes k) more ++ all
@@ -167,7 +171,7 @@ module _ (bytes : List ℕ) (bodies : List (List ℕ)) (h : IsBook bytes bodies)
   )
 
   -- what the bytes give as body k is body k of the book; where they give none, the book has no body k
-  pub book_given : (k : ℕ) (given : Option (Bor (List ℕ))) → MatchOption given (Holds bytes k → ⊥) (λ p. Holds bytes k × (p.now ≡ body_in bytes k)) → MatchOption given (length bodies ≤ k) (λ p. (k < length bodies) × (p.now ≡ get_or bodies k []))
+  pub book_given : (k : ℕ) (given : Option (Bor (List ℕ))) → Gives bytes k given → MatchOption given (length bodies ≤ k) (λ p. (k < length bodies) × (p.now ≡ get_or bodies k []))
   book_given k None n = book_no_body k n
   book_given k (Some p) g = book_body k p.now g.0 g.1
 
@@ -176,7 +180,7 @@ pub book_held : (bytes : List ℕ) → IsBook bytes (bodies_in bytes) → (k : �
 book_held bytes h k l = book_holds bytes (bodies_in bytes) h k (omega (arith, book_count bytes (bodies_in bytes) h))
 
 -- the part of the bytes from where body k begins up to where it ends is there, and is body k
-pub part_given : (bytes : List ℕ) (k from to : ℕ) (part : Option (Bor (List ℕ))) → IsGetRangeResult bytes from to part → Holds bytes k → from ≡ offset_in bytes k → to ≡ offset_in bytes k + length_in bytes k → MatchOption part (Holds bytes k → ⊥) (λ p. Holds bytes k × (p.now ≡ body_in bytes k))
+pub part_given : (bytes : List ℕ) (k from to : ℕ) (part : Option (Bor (List ℕ))) → IsGetRangeResult bytes from to part → Holds bytes k → from ≡ offset_in bytes k → to ≡ offset_in bytes k + length_in bytes k → Gives bytes k part
 part_given bytes k from to None g held begins ends = absurd (elim g.0 [ inl l ↦ omega (arith, begins, ends) | inr l ↦ omega (arith, ends, held.2) ])
 part_given bytes k from to (Some p) g held begins ends =
     let size : to - from ≡ length_in bytes k = omega (arith, begins, ends) in
